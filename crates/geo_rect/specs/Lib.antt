@@ -1,3 +1,4 @@
 pub mod Axis
 pub mod Order
 pub mod Plane
+pub mod Tests

@@ -4,11 +4,13 @@
 //! All coordinates are whole micrometres.
 #![tactic(auto)]
 
+mod decided;
 mod ids;
 mod lists;
 mod memory;
 mod shapes;
 
+pub use decided::tests_are_exact;
 pub use ids::{ClassId, KindId, Label, LayerId, NetId, Node, Spot};
 pub use lists::{List, Text};
 pub use memory::NoMemory;

@@ -1,0 +1,6 @@
+pub mod Lookup
+pub mod Rules
+pub mod Segments
+pub mod Shapes
+pub mod Spacing
+pub mod Violations

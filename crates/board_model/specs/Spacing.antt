@@ -1,0 +1,40 @@
+-- The rules between shapes: gap and outline.
+use Rattle.std.specs.Prelude.{ℕ, ℤ, pos, ◌≡◌, ◌==◌, Bool, true, false, ◌&&◌, not, Option, Some, None, int_le}
+use Rattle.std.specs.Int.{int_max}
+use Rattle.geo_rect.specs.declared.ids.ClassId.{ClassId}
+use Rattle.geo_rect.specs.declared.ids.LayerId.{LayerId}
+use Rattle.geo_rect.specs.declared.ids.NetId.{NetId}
+use Rattle.geo_rect.specs.declared.shapes.Rect.{Rect}
+use Rattle.geo_rect.specs.Plane.{IsTooClose}
+use Rattle.geo_rect.specs.Tests.{are_too_close}
+use Rattle.board_model.specs.declared.parts.BoardParts.{BoardParts}
+use Rattle.board_model.specs.declared.shapes.Shape.{Shape}
+use Rattle.board_model.specs.Lookup.{rule_of, class_of}
+
+-- the gap that a class keeps on a layer to what an owner has: to a net the greater of the gaps of
+-- the two classes, to a blockage the class's own
+abbrev pub gap_to : BoardParts → LayerId → ClassId → Option NetId → ℤ
+gap_to b l c None = (rule_of b l c).gap
+gap_to b l c (Some n) = int_max (rule_of b l c).gap (rule_of b l (class_of b n)).gap
+
+-- the gap between what two owners have on a layer (blockages keep none to one another)
+abbrev pub gap_between : BoardParts → LayerId → Option NetId → Option NetId → ℤ
+gap_between b l (Some m) o = gap_to b l (class_of b m) o
+gap_between b l None (Some n) = gap_to b l (class_of b n) None
+gap_between b l None None = pos 0
+
+-- whether both are blockages, or both belong to one net
+abbrev pub is_same_owner : Option NetId → Option NetId → Bool
+is_same_owner None None = true
+is_same_owner None (Some n) = false
+is_same_owner (Some m) None = false
+is_same_owner (Some m) (Some n) = m.0 == n.0
+
+-- whether the area lies in the board; it may touch the edge
+abbrev pub keeps_outline : BoardParts → Rect → Bool
+keeps_outline b r = (int_le (pos 0) r.x0 && int_le (pos 0) r.y0) && (int_le r.x1 b.width && int_le r.y1 b.height)
+
+-- whether two shapes stand on one layer, belong to two owners, and are too close for the gap of these
+abbrev pub breaks_gap : BoardParts → Shape → Shape → Bool
+breaks_gap b s t =
+    (s.layer.0 == t.layer.0 && not (is_same_owner s.owner t.owner)) && are_too_close s.area t.area (gap_between b s.layer s.owner t.owner)

@@ -1,0 +1,143 @@
+ghost use Rattle.std.specs.Prelude.{◌≡◌, ◌<◌, length, IfOk, slice_index_or, slice_get, Some, None, IfSome, IfNone, [], Contains};
+ghost use Rattle.board_model.specs.Rules.{IsBoard};
+ghost use Rattle.board_model.specs.Lookup.{rule_of, pad_of, kind_of, class_of, pins_of};
+ghost use Rattle.board_model.specs.Violations.{violations_of};
+ghost use Rattle.board_model.specs.Shapes.{state_shapes};
+
+use crate::boards::Board;
+use crate::parts::{Block, BoardParts, Pin, Rule, ViaKind};
+use geo_rect::{ClassId, KindId, LayerId, NetId, NoMemory};
+use std::alloc::Global;
+
+impl Board {
+    /// The board of these parts, which keep every rule of the board text.
+    pub fn build(_alloc: Global, parts: BoardParts) -> Result<Board, NoMemory>
+        requires { IsBoard parts }
+        ensures { IfOk result (λ b. b.parts ≡ parts) }
+    {
+        Ok(Board { parts })
+    }
+
+    /// In micrometres: the points of the board have x from 0 to this.
+    pub fn width(&self) -> i32
+        ensures { result ≡ self.now.parts.width }
+    {
+        self.parts.width
+    }
+
+    /// In micrometres: the points of the board have y from 0 to this.
+    pub fn height(&self) -> i32
+        ensures { result ≡ self.now.parts.height }
+    {
+        self.parts.height
+    }
+
+    /// The number of layers.
+    pub fn layers(&self) -> u32
+        ensures { result ≡ length self.now.parts.layers }
+    {
+        self.parts.layers.len() as u32
+    }
+
+    /// The number of classes.
+    pub fn classes(&self) -> u32
+        ensures { result ≡ length self.now.parts.classes }
+    {
+        self.parts.classes.len() as u32
+    }
+
+    /// The number of kinds of vias.
+    pub fn kinds(&self) -> u32
+        ensures { result ≡ length self.now.parts.kinds }
+    {
+        self.parts.kinds.len() as u32
+    }
+
+    /// The number of nets.
+    pub fn nets(&self) -> u32
+        ensures { result ≡ length self.now.parts.net_names }
+    {
+        self.parts.net_names.len() as u32
+    }
+
+    /// What a class keeps on a layer.
+    pub fn rule(&self, l: LayerId, c: ClassId) -> Rule
+        requires layer { l.0 < length self.now.parts.layers }
+        requires class { c.0 < length self.now.parts.classes }
+        ensures { result ≡ rule_of self.now.parts l c }
+    {
+        self.parts.rules.as_slice()[l.0 as usize * self.parts.classes.len() + c.0 as usize]
+    }
+
+    /// Half the width of the pad of a kind's via for a class, in micrometres.
+    pub fn pad(&self, k: KindId, c: ClassId) -> i32
+        requires kind { k.0 < length self.now.parts.kinds }
+        requires class { c.0 < length self.now.parts.classes }
+        ensures { result ≡ pad_of self.now.parts k c }
+    {
+        self.parts.pads.as_slice()[k.0 as usize * self.parts.classes.len() + c.0 as usize]
+    }
+
+    pub fn kind(&self, k: KindId) -> ViaKind
+        requires { k.0 < length self.now.parts.kinds }
+        ensures { result ≡ kind_of self.now.parts k }
+    {
+        self.parts.kinds.as_slice()[k.0 as usize]
+    }
+
+    pub fn class_of(&self, n: NetId) -> ClassId
+        requires { n.0 < length self.now.parts.net_names }
+        ensures { result ≡ class_of self.now.parts n }
+    {
+        self.parts.net_classes.as_slice()[n.0 as usize]
+    }
+
+    /// The blockages, in the order of the text.
+    pub fn blocks(&self) -> &[Block]
+        ensures { result.now ≡ self.now.parts.blocks }
+    {
+        self.parts.blocks.as_slice()
+    }
+
+    /// The pins, in the order of the text.
+    pub fn pins(&self) -> &[Pin]
+        ensures { result.now ≡ self.now.parts.pins }
+    {
+        self.parts.pins.as_slice()
+    }
+
+    /// The board's own name.
+    pub fn name(&self) -> &str
+        ensures { result.now ≡ self.now.parts.name }
+    {
+        self.parts.name.as_str()
+    }
+
+    pub fn layer_name(&self, l: LayerId) -> &str
+        requires { l.0 < length self.now.parts.layers }
+        ensures { result.now ≡ slice_index_or self.now.parts.layers l.0 [] }
+    {
+        self.parts.layers.as_slice()[l.0 as usize].as_str()
+    }
+
+    pub fn class_name(&self, c: ClassId) -> &str
+        requires { c.0 < length self.now.parts.classes }
+        ensures { result.now ≡ slice_index_or self.now.parts.classes c.0 [] }
+    {
+        self.parts.classes.as_slice()[c.0 as usize].as_str()
+    }
+
+    pub fn kind_name(&self, k: KindId) -> &str
+        requires { k.0 < length self.now.parts.kind_names }
+        ensures { result.now ≡ slice_index_or self.now.parts.kind_names k.0 [] }
+    {
+        self.parts.kind_names.as_slice()[k.0 as usize].as_str()
+    }
+
+    pub fn net_name(&self, n: NetId) -> &str
+        requires { n.0 < length self.now.parts.net_names }
+        ensures { result.now ≡ slice_index_or self.now.parts.net_names n.0 [] }
+    {
+        self.parts.net_names.as_slice()[n.0 as usize].as_str()
+    }
+}

@@ -1,0 +1,21 @@
+//! A board, what is made on it, and the words that all rules are said in: shapes, gaps, outline,
+//! violations.
+#![tactic(auto)]
+
+mod accessors;
+mod boards;
+mod commands;
+mod limits;
+mod made;
+mod parts;
+mod shapes;
+
+pub use boards::Board;
+pub use commands::Command;
+pub use limits::{
+    MAX_BLOCKS, MAX_CHARGE, MAX_CLASSES, MAX_COMMANDS, MAX_KINDS, MAX_LAYERS, MAX_MEASURE,
+    MAX_NAME, MAX_NETS, MAX_PINS, MAX_SIDE,
+};
+pub use made::{Conn, Leg, Made};
+pub use parts::{Block, BoardParts, Pin, Rule, ViaKind};
+pub use shapes::{Owned, Shape, Violation};

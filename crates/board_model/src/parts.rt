@@ -1,0 +1,56 @@
+use geo_rect::{ClassId, LayerId, List, NetId, Rect, Text};
+
+/// What a class of nets keeps on a layer, in micrometres.
+#[derive(Clone, Copy, Debug, PartialEq, Eq)]
+pub struct Rule {
+    /// Half the width of a wire.
+    pub half: i32,
+    /// The gap to all that belongs to no net of the same number.
+    pub gap: i32,
+}
+
+/// A kind of via: the layers that it joins, from the first to the last, and what one costs, in
+/// micrometres of wire.
+#[derive(Clone, Copy, Debug, PartialEq, Eq)]
+pub struct ViaKind {
+    pub first: LayerId,
+    pub last: LayerId,
+    pub charge: u32,
+}
+
+/// A blockage: an area of a layer that no net may come near.
+#[derive(Clone, Copy, Debug, PartialEq, Eq)]
+pub struct Block {
+    pub layer: LayerId,
+    pub area: Rect,
+}
+
+/// A pin: an area of a net, on each layer from the first to the last.
+#[derive(Clone, Copy, Debug, PartialEq, Eq)]
+pub struct Pin {
+    pub net: NetId,
+    pub area: Rect,
+    pub first: LayerId,
+    pub last: LayerId,
+}
+
+/// A board as its plain lists, each in the order of the text.
+#[derive(Debug, Drop)]
+pub struct BoardParts {
+    pub name: Text,
+    /// In micrometres, as the height: the board is the points from `0` to `width` and `0` to `height`.
+    pub width: i32,
+    pub height: i32,
+    pub layers: List<Text>,
+    pub classes: List<Text>,
+    /// One for each layer, and in it each class.
+    pub rules: List<Rule>,
+    pub kind_names: List<Text>,
+    pub kinds: List<ViaKind>,
+    /// Half the width of a via's pad, in micrometres: one for each kind, and in it each class.
+    pub pads: List<i32>,
+    pub blocks: List<Block>,
+    pub net_names: List<Text>,
+    pub net_classes: List<ClassId>,
+    pub pins: List<Pin>,
+}
