@@ -1,1 +1,3 @@
+pub mod Lifts
 pub mod Same
+pub mod Squares
