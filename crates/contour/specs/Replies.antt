@@ -35,11 +35,12 @@ violation_text b (Outline l o) =
 abbrev pub rules_text : BoardParts → List Violation → List ℕ
 rules_text b found = codes "rules " ++ decimal (length found) ++ codes "\n" ++ flat_map (violation_text b) found
 
--- what a violation names is in the board
+-- a blockage, or a net of the board
 abbrev pub IsKnownOwner : BoardParts → Option NetId → Type 0
 IsKnownOwner b None = Unit {0}
 IsKnownOwner b (Some n) = n.0 < length b.net_names
 
+-- what a violation names is in the board
 abbrev pub IsKnown : BoardParts → Violation → Type 0
 IsKnown b (Close l o q) = (l.0 < length b.layers) × IsKnownOwner b o.owner × IsKnownOwner b q.owner
 IsKnown b (Outline l o) = (l.0 < length b.layers) × IsKnownOwner b o.owner

@@ -2,6 +2,7 @@
 #![tactic(auto)]
 
 mod replies;
+mod requests;
 mod texts;
 
 fn main() {}
