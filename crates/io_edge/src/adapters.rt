@@ -1,5 +1,5 @@
 ghost use Rattle.std.specs.Prelude.{◌≡◌, ◌<◌, ◌≤◌, length, take, None, [], IfOk, OnOk, OnErr};
-ghost use Rattle.std.specs.Io.KnownBytes.{Consumes, Appends as HandsOn};
+ghost use Rattle.std.specs.Io.KnownBytes.{Consumes, IsAtEnd, Appends as HandsOn};
 ghost use Rattle.io_edge.specs.Faults.{one_more};
 ghost use Rattle.io_edge.specs.Streams.{Rose};
 
@@ -31,6 +31,8 @@ impl<R: Read> Source for ReadSource<R> {
         // The bytes are the reader's, where it is known which it gives.
         ensures given { IfOk result (λ n. Consumes (R.remaining self.old.inner)
             (R.remaining self.new.inner) (take n buf.new)) }
+        ensures end { IfOk result (λ n. n ≡ 0 → 0 < length buf.new
+            → IsAtEnd (R.remaining self.new.inner)) }
         ensures counted { OnErr result (self.new.failed ≡ one_more self.old.failed) }
         ensures not_counted { OnOk result (self.new.failed ≡ self.old.failed) }
         ensures fault { OnErr result (Rose self.old.failed self.new.failed) }
