@@ -1,9 +1,9 @@
 -- Streams that give or take piece after piece.
-use Rattle.std.proofs.Common.{◌≡◌, ℕ, ◌+◌, ◌<◌, ◌≤◌, List, [], ◌++◌, length, take, drop, Some, None, refl, sym, ap, ◌∙◌, subst, append_assoc, append-nil, take-append-drop, arith}
+use Rattle.std.proofs.Common.{◌≡◌, ℕ, ◌+◌, List, [], ◌++◌, length, take, drop, Some, None, refl, sym, ap, ◌∙◌, subst, append_assoc, append-nil, take-append-drop}
 use Rattle.std.specs.Prelude.{Option}
 use Rattle.std.proofs.Math.Seq.{take-add}
 use Rattle.std.proofs.lemmas.List.{take_at, drop-drop}
-use Rattle.io_edge.specs.Streams.{IsToldAs, Takes, Appends, TakesCount, TakesAtMost}
+use Rattle.io_edge.specs.Streams.{IsToldAs, Takes, Appends}
 
 pub Takes-nil : (a : Option (List ℕ)) → Takes a a []
 Takes-nil None = tt

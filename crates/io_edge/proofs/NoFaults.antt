@@ -1,5 +1,5 @@
 -- Streams in memory with no failing call have no fault.
-use Rattle.std.proofs.Common.{◌≡◌, ℕ, ◌+◌, ◌<◌, ◌≤◌, List, [], ◌∷◌, length, take, Some, refl, ap, sym, ◌∙◌, length-append, length-take, vec_len, arith}
+use Rattle.std.proofs.Common.{◌≡◌, ℕ, ◌+◌, ◌≤◌, List, [], ◌∷◌, length, take, Some, ap, ◌∙◌, length-append, length-take, arith}
 use Rattle.io_edge.specs.declared.mem_sinks.MemSink.{MemSink}
 use Rattle.io_edge.specs.declared.mem_sources.MemSource.{MemSource}
 use Rattle.io_edge.specs.Faults.{failed_calls}

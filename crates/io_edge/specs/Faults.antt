@@ -1,5 +1,5 @@
 -- The faults of a stream in memory whose failing calls are given by their numbers, from 1.
-use Rattle.std.specs.Prelude.{◌≡◌, ℕ, ◌+◌, ◌<◌, ◌≤◌, min, List, [], ◌∷◌, nat_lt, nat_le, if◌then◌else◌}
+use Rattle.std.specs.Prelude.{ℕ, ◌+◌, min, List, [], ◌∷◌, nat_lt, nat_le, if◌then◌else◌}
 
 -- the count after one more, which stops at the last value of a u64
 abbrev pub one_more : ℕ → ℕ

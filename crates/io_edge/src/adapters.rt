@@ -1,4 +1,7 @@
-ghost use Rattle.std.specs.Prelude.{None, []};
+ghost use Rattle.std.specs.Prelude.{◌≡◌, ◌<◌, ◌≤◌, length, take, None, [], IfOk, OnOk, OnErr};
+ghost use Rattle.std.specs.Io.KnownBytes.{Consumes, IsAtEnd, Appends as HandsOn};
+ghost use Rattle.io_edge.specs.Faults.{one_more};
+ghost use Rattle.io_edge.specs.Streams.{Rose};
 
 use crate::streams::{Failed, Sink, Source};
 use std::io::{Read, Write};
@@ -22,7 +25,19 @@ impl<R: Read> Source for ReadSource<R> {
 
     ghost setup = { λ _. [] };
 
-    fn read(&mut self, buf: &mut [u8]) -> Result<usize, Failed> {
+    fn read(&mut self, buf: &mut [u8]) -> Result<usize, Failed>
+        ensures count { IfOk result (λ n. n ≤ length buf.new) }
+
+        // The bytes are the reader's, where it is known which it gives.
+        ensures given { IfOk result (λ n. Consumes (R.remaining self.old.inner)
+            (R.remaining self.new.inner) (take n buf.new)) }
+        ensures end { IfOk result (λ n. n ≡ 0 → 0 < length buf.new
+            → IsAtEnd (R.remaining self.new.inner)) }
+        ensures counted { OnErr result (self.new.failed ≡ one_more self.old.failed) }
+        ensures not_counted { OnOk result (self.new.failed ≡ self.old.failed) }
+        ensures fault { OnErr result (Rose self.old.failed self.new.failed) }
+        ensures never_falls { self.old.failed ≤ self.new.failed }
+    {
         match self.inner.read(buf) {
             Ok(count) => Ok(count),
             Err(_) => {
@@ -51,7 +66,18 @@ impl<W: Write> Sink for WriteSink<W> {
 
     ghost setup = { λ _. [] };
 
-    fn write(&mut self, piece: &[u8]) -> Result<usize, Failed> {
+    fn write(&mut self, piece: &[u8]) -> Result<usize, Failed>
+        ensures count { IfOk result (λ n. n ≤ length piece.now) }
+        ensures some { IfOk result (λ n. 0 < length piece.now → 0 < n) }
+
+        // The bytes go to the writer, where it is known which it holds.
+        ensures handed_on { IfOk result (λ n. HandsOn (W.contents self.old.inner)
+            (W.contents self.new.inner) (take n piece.now)) }
+        ensures counted { OnErr result (self.new.failed ≡ one_more self.old.failed) }
+        ensures not_counted { OnOk result (self.new.failed ≡ self.old.failed) }
+        ensures fault { OnErr result (Rose self.old.failed self.new.failed) }
+        ensures never_falls { self.old.failed ≤ self.new.failed }
+    {
         if let Ok(count) = self.inner.write(piece) {
             if count > 0 || piece.is_empty() {
                 return Ok(count);

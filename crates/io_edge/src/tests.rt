@@ -1,4 +1,4 @@
-ghost use Rattle.std.specs.Prelude.{◌≡◌, ◌+◌, ◌≤◌, [], length, IsErrOf};
+ghost use Rattle.std.specs.Prelude.{◌≡◌, ◌+◌, ◌≤◌, [], length, IsErrOf, IsOk};
 
 use crate::{MemSink, MemSource, ReadEnd, ReadSource, WriteFault, WriteSink, read_all, write_all};
 use geo_rect::List;
@@ -21,7 +21,7 @@ fn read_plain(alloc: Global, source: &mut MemSource, limit: usize) -> Result<Lis
 fn write_plain(sink: &mut MemSink, bytes: &[u8]) -> Result<(), WriteFault>
     requires fails { sink.old.fails ≡ [] }
     requires room { length sink.old.held.items + length bytes.now + sink.old.most ≤ sink.old.room }
-    ensures { IsErrOf result WriteFault → ⊥ }
+    ensures { IsOk result }
 {
     write_all(sink, bytes)
 }
@@ -74,7 +74,7 @@ fn fails_without_room(rt: HostRuntime) -> Result<(), Fail> {
 #[test]
 fn writes_with_room(rt: HostRuntime) -> Result<(), Fail> {
     let mut sink = MemSink::new(rt.alloc(), 19, 10, &[])?;
-    write_plain(&mut sink, &TEXT).ok().ok_or("a fault")?;
+    write_plain(&mut sink, &TEXT).unwrap();
     assert_eq!(rt; sink.held.as_slice(), TEXT.as_slice());
     Ok(())
 }

@@ -1,4 +1,4 @@
-use Rattle.std.proofs.Common.{◌≡◌, ℕ, ◌+◌, ◌≤◌, ◌++◌, length, take, length-append, length-take, rules, arith}
+use Rattle.std.proofs.Common.{◌≡◌, ◌++◌, length, take, length-append, length-take, arith}
 use Rattle.std.proofs.lemmas.Grind.{common_steps}
 use Rattle.io_edge.proofs.Moves.{Takes-trans}
 use Rattle.io_edge.proofs.reading.read_piece.Goals as goal

@@ -1,4 +1,4 @@
-use Rattle.std.proofs.Common.{◌≡◌, ℕ, ◌+◌, ◌≤◌, length, take, drop, length-drop, arith}
+use Rattle.std.proofs.Common.{length-drop, arith}
 use Rattle.std.proofs.lemmas.List.{take_rest}
 use Rattle.io_edge.proofs.Moves.{Appends-more}
 use Rattle.io_edge.proofs.writing.write_all.Goals as goal

@@ -1,4 +1,4 @@
-use Rattle.std.proofs.Common.{◌≡◌, ◌+◌, ◌-◌, ℕ, length, take, drop, length-take, ap, ◌∙◌, arith}
+use Rattle.std.proofs.Common.{◌≡◌, ◌+◌, ◌-◌, take, drop, length-take, ap, ◌∙◌, arith}
 use Rattle.io_edge.proofs.Moves.{split-at_place}
 use Rattle.io_edge.proofs.mem_sources.MemSourceSource.read.Goals as goal
 
