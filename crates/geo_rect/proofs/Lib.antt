@@ -1,3 +1,9 @@
+pub mod Bands
+pub mod Clamps
+pub mod Distances
 pub mod Lifts
+pub mod Nearest
+pub mod Reaches
 pub mod Same
 pub mod Squares
+pub mod Steps

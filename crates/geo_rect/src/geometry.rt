@@ -1,10 +1,13 @@
 //! Questions about two rectangles. Coordinates and gaps are whole micrometres.
 
-ghost use Rattle.std.specs.Prelude.{◌↔◌, pos, ◌≤ℤ◌, IsTrue, IfSome, IfNone};
+ghost use Rattle.std.specs.Prelude.{◌≡◌, ◌↔◌, pos, ◌≤ℤ◌, IsTrue, IfSome, IfNone};
 ghost use Rattle.geo_rect.specs.Axis.{IsGap};
 ghost use Rattle.geo_rect.specs.Plane.{IsBounded, IsTooClose, IsMeet, ShareNoPoint, IsGrown};
+ghost use Rattle.geo_rect.specs.Distance.{IsDistance, IsReach};
+ghost use Rattle.geo_rect.specs.Images.{IsClamped};
+ghost use Rattle.geo_rect.specs.Edges.{IsEdge, HasNoEdge, right_band, left_band, upper_band, lower_band};
 
-use crate::axes::{near, overlap, widened};
+use crate::axes::{farthest, gap_between, images, just, near, overlap, widened};
 use crate::shapes::Rect;
 
 /// The common points of `a` and `b`; `None` where there are none.
@@ -40,4 +43,82 @@ pub fn too_close(a: Rect, b: Rect, s: i32) -> bool
         return false;
     }
     near(a.rows(), b.rows(), s)
+}
+
+/// The least distance from a point of `a` to a point of `b`, across and up together. All
+/// coordinates lie between -2^25 and 2^25.
+pub fn dist(a: Rect, b: Rect) -> u64
+    requires first { IsBounded a }
+    requires second { IsBounded b }
+    ensures { IsDistance a b result }
+{
+    let across = gap_between(a.columns(), b.columns());
+    let up = gap_between(a.rows(), b.rows());
+    u64::from(across) + u64::from(up)
+}
+
+/// The greatest distance from `a` to a point of `b`. All coordinates lie between -2^25 and 2^25.
+pub fn reach(a: Rect, b: Rect) -> u64
+    requires first { IsBounded a }
+    requires second { IsBounded b }
+    ensures { IsReach a b result }
+{
+    let across = farthest(a.columns(), b.columns());
+    let up = farthest(a.rows(), b.rows());
+    u64::from(across) + u64::from(up)
+}
+
+/// The images of the points of `b` when each coordinate is clamped into `e`.
+pub fn clamp(b: Rect, e: Rect) -> Rect
+    ensures { IsClamped b e result }
+{
+    Rect::of(images(b.columns(), e.columns()), images(b.rows(), e.rows()))
+}
+
+/// The points of `u` that are one step from `t`, which shares no point with `u`; `None` where there
+/// are none. The coordinates of `t` lie between -2^25 and 2^25.
+pub fn edge(t: Rect, u: Rect) -> Option<Rect>
+    requires bounded { IsBounded t }
+    requires separate { ShareNoPoint t u }
+    ensures some { IfSome result (λ r. IsEdge t u r) }
+    ensures none { IfNone result (HasNoEdge t u) }
+{
+    if let Some(part) = meet(right_of(t), u) {
+        return Some(part);
+    }
+    if let Some(part) = meet(left_of(t), u) {
+        return Some(part);
+    }
+    if let Some(part) = meet(above(t), u) {
+        return Some(part);
+    }
+    meet(below(t), u)
+}
+
+fn right_of(t: Rect) -> Rect
+    requires { IsBounded t }
+    ensures { result ≡ right_band t }
+{
+    Rect::of(just(t.x1 + 1), t.rows())
+}
+
+fn left_of(t: Rect) -> Rect
+    requires { IsBounded t }
+    ensures { result ≡ left_band t }
+{
+    Rect::of(just(t.x0 - 1), t.rows())
+}
+
+fn above(t: Rect) -> Rect
+    requires { IsBounded t }
+    ensures { result ≡ upper_band t }
+{
+    Rect::of(t.columns(), just(t.y1 + 1))
+}
+
+fn below(t: Rect) -> Rect
+    requires { IsBounded t }
+    ensures { result ≡ lower_band t }
+{
+    Rect::of(t.columns(), just(t.y0 - 1))
 }
