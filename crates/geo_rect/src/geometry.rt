@@ -63,9 +63,9 @@ pub fn reach(a: Rect, b: Rect) -> u64
     requires second { IsBounded b }
     ensures { IsReach a b result }
 {
-    let across = farthest(a.columns(), b.columns());
-    let up = farthest(a.rows(), b.rows());
-    u64::from(across) + u64::from(up)
+    let columns = farthest(a.columns(), b.columns());
+    let rows = farthest(a.rows(), b.rows());
+    u64::from(columns) + u64::from(rows)
 }
 
 /// The images of the points of `b` when each coordinate is clamped into `e`.
@@ -121,4 +121,41 @@ fn below(t: Rect) -> Rect
     ensures { result ≡ lower_band t }
 {
     Rect::of(t.columns(), just(t.y0 - 1))
+}
+
+#[cfg(test)]
+mod tests {
+    use super::*;
+    use std::test::Fail;
+
+    #[test]
+    fn numbers(rt: HostRuntime) -> Result<(), Fail> {
+        let front = Rect::new(4, 9, 6, 11);
+        let part = Rect::new(25, 16, 39, 16);
+        assert_eq!(rt; clamp(front, part), Rect::new(25, 16, 25, 16));
+        assert_eq!(rt; dist(front, part), 24);
+        assert_eq!(rt; reach(Rect::new(4, 6, 6, 6), Rect::new(1, 6, 9, 6)), 3);
+        assert_eq!(rt;
+            grown(Rect::new(18, 0, 22, 14), 3),
+            Rect::new(16, -2, 24, 16)
+        );
+        let left = Rect::new(5, 5, 7, 7);
+        let right = Rect::new(9, 5, 11, 7);
+        assert_eq!(rt; too_close(left, right, 2), false);
+        assert_eq!(rt; too_close(left, right, 3), true);
+        Ok(())
+    }
+
+    #[test]
+    fn common_parts(rt: HostRuntime) -> Result<(), Fail> {
+        let strip = Rect::new(2, 7, 8, 13);
+        let over = Rect::new(1, 14, 15, 16);
+        assert_eq!(rt; edge(strip, over), Some(Rect::new(2, 14, 8, 14)));
+        assert_eq!(rt; edge(strip, Rect::new(9, 14, 15, 16)), None);
+        assert_eq!(rt;
+            meet(Rect::new(16, 1, 24, 16), Rect::new(25, 1, 39, 6)),
+            None
+        );
+        Ok(())
+    }
 }

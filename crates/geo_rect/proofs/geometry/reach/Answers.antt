@@ -3,4 +3,4 @@ use Rattle.geo_rect.proofs.Lifts.{reach_from}
 use Rattle.geo_rect.proofs.geometry.reach.Goals as goal
 
 pub returns : goal.returns
-returns c = reach_from c.args.a c.args.b _ _ _ _ c.columns.ensures c.columns-2.ensures c.rows.ensures c.rows-2.ensures _ _ _ (omega arith) c.farthest-across.ensures c.farthest-up.ensures
+returns c = reach_from c.args.a c.args.b _ _ _ _ c.columns.ensures c.columns-2.ensures c.rows.ensures c.rows-2.ensures _ _ _ (omega arith) c.farthest-columns.ensures c.farthest-rows.ensures
