@@ -10,6 +10,7 @@ use Rattle.geo_rect.specs.Line.{between}
 use Rattle.geo_rect.specs.Plane.{HasPoint, columns, rows, IsMeet, ShareNoPoint}
 use Rattle.geo_rect.specs.Distance.{apart}
 use Rattle.geo_rect.specs.Edges.{IsBeside, IsEdge, HasNoEdge, right_band, left_band, upper_band, lower_band}
+use Rattle.geo_rect.proofs.Parts.{low_in, high_in}
 use Rattle.geo_rect.proofs.Steps.{between-self, between-zero}
 
 -- the side of t on which q lies, one step from it
@@ -58,12 +59,6 @@ after_is_one x v e = omega (arith, ints)
 
 before_is_one : (x v : ℤ) → v ≡ x -ℤ pos 1 → between x v ≡ 1
 before_is_one x v e = omega (arith, ints)
-
-low_in : (i : Interval) → HasNumber i i.low
-low_in i = record { from = omega (arith, ints); to = i.ordered }
-
-high_in : (i : Interval) → HasNumber i i.high
-high_in i = record { from = i.ordered; to = omega (arith, ints) }
 
 side_beside : (t : Rect) (q : Point) → Side t q → IsBeside t q
 side_beside t q (on_right e h) = record {

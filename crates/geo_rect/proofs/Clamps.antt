@@ -10,7 +10,7 @@ use Rattle.geo_rect.specs.Line as line
 use Rattle.geo_rect.specs.Plane.{HasPoint, LiesIn, columns, rows, rect_of, lone}
 use Rattle.geo_rect.specs.Distance.{apart, IsAway, IsDistance}
 use Rattle.geo_rect.specs.Images.{IsImage, IsClamped}
-use Rattle.geo_rect.proofs.Same.{same_interval, same_rect}
+use Rattle.geo_rect.proofs.Parts.{lies_in_from, same_points}
 use Rattle.geo_rect.proofs.Steps.{Place, find_place, place_inside, image_from, place_of}
 use Rattle.geo_rect.proofs.Steps.Place.{before, inside, after}
 use Rattle.geo_rect.proofs.Nearest.{apart-sym, apart-triangle, find_image, image_inside, image_on_the_way, image_away}
@@ -91,19 +91,6 @@ find_clamped b e =
     let y = find_images (rows b) (rows e) in
     (rect_of x.0 y.0, clamped_of b e x.0 y.0 x.1 y.1)
 
--- rectangles with the same points are the same
-pub same_points : (a b : Rect) → ((p : Point) → HasPoint a p → HasPoint b p) → ((p : Point) → HasPoint b p → HasPoint a p) → a ≡ b
-same_points a b f g =
-    let la = f (record { x = a.x0; y = a.y0 }) (record { across = record { from = omega (arith, ints); to = a.x_ordered }; up = record { from = omega (arith, ints); to = a.y_ordered } }) in
-    let ha = f (record { x = a.x1; y = a.y1 }) (record { across = record { from = a.x_ordered; to = omega (arith, ints) }; up = record { from = a.y_ordered; to = omega (arith, ints) } }) in
-    let lb = g (record { x = b.x0; y = b.y0 }) (record { across = record { from = omega (arith, ints); to = b.x_ordered }; up = record { from = omega (arith, ints); to = b.y_ordered } }) in
-    let hb = g (record { x = b.x1; y = b.y1 }) (record { across = record { from = b.x_ordered; to = omega (arith, ints) }; up = record { from = b.y_ordered; to = omega (arith, ints) } }) in
-    let la1 = la.across in let lb1 = lb.across in let ha1 = ha.across in let hb1 = hb.across in
-    let la2 = la.up in let lb2 = lb.up in let ha2 = ha.up in let hb2 = hb.up in
-    same_rect a b
-    (same_interval (columns a) (columns b) (omega (arith, ints)) (omega (arith, ints)))
-    (same_interval (rows a) (rows b) (omega (arith, ints)) (omega (arith, ints)))
-
 pub clamped_one : (b e c d : Rect) → IsClamped b e c → IsClamped b e d → c ≡ d
 clamped_one b e c d p q =
     same_points c d
@@ -114,10 +101,7 @@ pub clamped_point : (b e c : Rect) (p : Point) → IsClamped b e c → HasPoint 
 clamped_point b e c p k h = let s = k.only p h in image_inside e s.0 p s.2
 
 pub clamped_lies_in : (b e c : Rect) → IsClamped b e c → LiesIn c e
-clamped_lies_in b e c k =
-    let l = clamped_point b e c (record { x = c.x0; y = c.y0 }) k (record { across = record { from = omega (arith, ints); to = c.x_ordered }; up = record { from = omega (arith, ints); to = c.y_ordered } }) in
-    let h = clamped_point b e c (record { x = c.x1; y = c.y1 }) k (record { across = record { from = c.x_ordered; to = omega (arith, ints) }; up = record { from = c.y_ordered; to = omega (arith, ints) } }) in
-    record { across = record { from = l.across.from; to = h.across.to }; up = record { from = l.up.from; to = h.up.to } }
+clamped_lies_in b e c k = lies_in_from c e (λ p h. clamped_point b e c p k h)
 
 -- the law of the moved front: nothing is lost on the way through e
 pub clamped_detour : (f e c : Rect) (v : Point) (m n k : ℕ) → HasPoint e v → IsClamped f e c → IsDistance f e m → IsAway c v n → IsAway f v k → m + n ≤ k

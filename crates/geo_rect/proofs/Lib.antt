@@ -3,6 +3,7 @@ pub mod Clamps
 pub mod Distances
 pub mod Lifts
 pub mod Nearest
+pub mod Parts
 pub mod Reaches
 pub mod Same
 pub mod Squares

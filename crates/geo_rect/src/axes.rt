@@ -1,6 +1,6 @@
 //! What the geometry of rectangles asks of one axis.
 
-ghost use Rattle.std.specs.Prelude.{◌≡◌, ◌↔◌, pos, ◌≤ℤ◌, IsTrue, IfSome, IfNone};
+ghost use Rattle.std.specs.Prelude.{◌≡◌, ◌↔◌, ◌^◌, ◌≤◌, pos, ◌≤ℤ◌, IsTrue, IfSome, IfNone};
 ghost use Rattle.geo_rect.specs.Axis.{IsSmall, IsGap, IsNear, IsOverlap, ShareNoNumber, IsWidened, just};
 ghost use Rattle.geo_rect.specs.Line.{IsGapBetween, IsFarthest, IsImage, HasImages};
 
@@ -56,7 +56,8 @@ pub fn just(v: i32) -> Interval
 pub fn gap_between(a: Interval, b: Interval) -> u32
     requires first { IsSmall a }
     requires second { IsSmall b }
-    ensures { IsGapBetween a b result }
+    ensures exact { IsGapBetween a b result }
+    ensures small { result ≤ 2 ^ 26 }
 {
     if a.high < b.low {
         return (b.low - a.high) as u32;
@@ -71,7 +72,8 @@ pub fn gap_between(a: Interval, b: Interval) -> u32
 pub fn farthest(a: Interval, b: Interval) -> u32
     requires first { IsSmall a }
     requires second { IsSmall b }
-    ensures { IsFarthest a b result }
+    ensures exact { IsFarthest a b result }
+    ensures small { result ≤ 2 ^ 26 }
 {
     let before = a.low - b.low;
     let after = b.high - a.high;

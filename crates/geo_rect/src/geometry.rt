@@ -1,6 +1,6 @@
 //! Questions about two rectangles. Coordinates and gaps are whole micrometres.
 
-ghost use Rattle.std.specs.Prelude.{◌≡◌, ◌↔◌, pos, ◌≤ℤ◌, IsTrue, IfSome, IfNone};
+ghost use Rattle.std.specs.Prelude.{◌≡◌, ◌↔◌, ◌^◌, ◌≤◌, pos, ◌≤ℤ◌, IsTrue, IfSome, IfNone};
 ghost use Rattle.geo_rect.specs.Axis.{IsGap};
 ghost use Rattle.geo_rect.specs.Plane.{IsBounded, IsTooClose, IsMeet, ShareNoPoint, IsGrown};
 ghost use Rattle.geo_rect.specs.Distance.{IsDistance, IsReach};
@@ -50,7 +50,8 @@ pub fn too_close(a: Rect, b: Rect, s: i32) -> bool
 pub fn dist(a: Rect, b: Rect) -> u64
     requires first { IsBounded a }
     requires second { IsBounded b }
-    ensures { IsDistance a b result }
+    ensures exact { IsDistance a b result }
+    ensures small { result ≤ 2 ^ 27 }
 {
     let across = gap_between(a.columns(), b.columns());
     let up = gap_between(a.rows(), b.rows());
@@ -61,7 +62,8 @@ pub fn dist(a: Rect, b: Rect) -> u64
 pub fn reach(a: Rect, b: Rect) -> u64
     requires first { IsBounded a }
     requires second { IsBounded b }
-    ensures { IsReach a b result }
+    ensures exact { IsReach a b result }
+    ensures small { result ≤ 2 ^ 27 }
 {
     let columns = farthest(a.columns(), b.columns());
     let rows = farthest(a.rows(), b.rows());

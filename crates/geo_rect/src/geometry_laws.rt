@@ -4,7 +4,7 @@
 ghost use Rattle.std.specs.Prelude.{◌↔◌, ◌≡◌, ℕ, ◌+◌, ◌*◌, ◌≤◌, ℤ, pos, ◌≤ℤ◌, ◌+ℤ◌};
 ghost use Rattle.geo_rect.specs.declared.shapes.Point.{Point};
 ghost use Rattle.geo_rect.specs.declared.shapes.Rect.{Rect};
-ghost use Rattle.geo_rect.specs.Plane.{HasPoint, LiesIn, IsTooClose, IsGrown, square, lone};
+ghost use Rattle.geo_rect.specs.Plane.{HasPoint, LiesIn, IsBounded, IsTooClose, IsGrown, square, lone};
 ghost use Rattle.geo_rect.specs.Distance.{apart, IsAway, IsDistance, IsReach, IsFarOut};
 ghost use Rattle.geo_rect.specs.Images.{IsClamped};
 
@@ -83,4 +83,11 @@ pub fn there_is_one_rectangle()
     ensures one_clamped { (b e c d : Rect) → IsClamped b e c → IsClamped b e d → c ≡ d }
     ensures same_points { (a b : Rect) → ((p : Point) → HasPoint a p → HasPoint b p)
         → ((p : Point) → HasPoint b p → HasPoint a p) → a ≡ b }
+{}
+
+/// A rectangle lies in another exactly where each of its points does; and what lies in a bounded
+/// rectangle is bounded.
+pub fn parts_lie_within()
+    ensures points { (a b : Rect) → LiesIn a b ↔ ((p : Point) → HasPoint a p → HasPoint b p) }
+    ensures bounded { (a b : Rect) → LiesIn a b → IsBounded b → IsBounded a }
 {}

@@ -1,4 +1,5 @@
-use Rattle.geo_rect.proofs.Clamps.{find_clamped, clamped_one, same_points}
+use Rattle.geo_rect.proofs.Clamps.{find_clamped, clamped_one}
+use Rattle.geo_rect.proofs.Parts.{same_points}
 use Rattle.geo_rect.proofs.geometry_laws.there_is_one_rectangle.Goals as goal
 
 pub returns-clause-some_clamped : goal.returns-clause-some_clamped
