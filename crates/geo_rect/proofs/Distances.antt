@@ -77,10 +77,15 @@ distance_sym a b n d =
     }
 
 -- the distance of a to two points one step apart differs by at most one
-pub neighbour_step : (a : Rect) (v w : Point) (m n : ℕ) → apart v w ≡ 1 → IsAway a v m → IsAway a w n → n ≤ m + 1
-neighbour_step a v w m n e p q =
+pub step_grows : (a : Rect) (v w : Point) (m n : ℕ) → apart v w ≡ 1 → IsAway a v m → IsAway a w n → n ≤ m + 1
+step_grows a v w m n e p q =
     let x = p.reached in
     omega (arith, q.least x.0 x.1, apart-triangle x.0 v w, x.2)
+
+pub step_falls : (a : Rect) (v w : Point) (m n : ℕ) → apart v w ≡ 1 → IsAway a v m → IsAway a w n → m ≤ n + 1
+step_falls a v w m n e p q =
+    let x = q.reached in
+    omega (arith, p.least x.0 x.1, apart-triangle x.0 w v, apart-sym w v, x.2)
 
 pub distance_triangle : (a c : Rect) (v : Point) (m n k : ℕ) → IsAway a v m → IsAway c v n → IsDistance a c k → k ≤ m + n
 distance_triangle a c v m n k p q d =

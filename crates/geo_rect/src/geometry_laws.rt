@@ -1,5 +1,5 @@
 //! Laws of the geometry, over all whole numbers. Each function does nothing: its contract is the
-//! law. Proofs cite the lemma that is named at the function.
+//! law. Proofs cite the lemmas, which docs/PROOFS.md names beside the functions.
 
 ghost use Rattle.std.specs.Prelude.{◌↔◌, ◌≡◌, ℕ, ◌+◌, ◌*◌, ◌≤◌, ℤ, pos, ◌≤ℤ◌, ◌+ℤ◌};
 ghost use Rattle.geo_rect.specs.declared.shapes.Point.{Point};
@@ -25,10 +25,10 @@ pub fn clamping_gives_the_nearest()
     ensures inside { (b e c : Rect) → IsClamped b e c → LiesIn c e }
 {}
 
-/// From a point to a point one step on, the distance of a rectangle grows by one at most. Since the
-/// two may change places, it falls by one at most.
+/// From a point to a point one step on, the distance of a rectangle changes by one at most.
 pub fn a_step_changes_the_distance_by_one()
-    ensures { (a : Rect) (v w : Point) (m n : ℕ) → apart v w ≡ 1 → IsAway a v m → IsAway a w n → n ≤ m + 1 }
+    ensures grows { (a : Rect) (v w : Point) (m n : ℕ) → apart v w ≡ 1 → IsAway a v m → IsAway a w n → n ≤ m + 1 }
+    ensures falls { (a : Rect) (v w : Point) (m n : ℕ) → apart v w ≡ 1 → IsAway a v m → IsAway a w n → m ≤ n + 1 }
 {}
 
 /// A rectangle `f` is no farther from a point than `g` is, but for the reach of `f` to `g`; and the
