@@ -1,4 +1,11 @@
+pub mod Bands
+pub mod Clamps
+pub mod Distances
 pub mod Lifts
+pub mod Nearest
+pub mod Parts
+pub mod Reaches
 pub mod Same
 pub mod Tests
 pub mod Squares
+pub mod Steps

@@ -3,7 +3,7 @@ use Rattle.std.specs.Prelude.{ℤ, pos, ◌+ℤ◌, ◌-ℤ◌, ◌≤ℤ◌, �
 use Rattle.std.proofs.Common.{neg_ℤ}
 use Rattle.std.specs.Int.RustNames.{unsigned_abs}
 use Rattle.geo_rect.specs.declared.shapes.Interval.{Interval}
-use Rattle.geo_rect.specs.Order.{around-ordered}
+use Rattle.geo_rect.specs.Order.{around-ordered, just-ordered}
 
 -- v is one of the numbers of the interval
 pub record HasNumber (i : Interval) (v : ℤ) : Type 0 where
@@ -23,6 +23,10 @@ pub record IsNear (a b : Interval) (s : ℤ) : Type 0 where
 -- the numbers at most h from c, for an h that is not negative
 abbrev pub around : ℤ → ℤ → Interval
 around c h = record { low = c -ℤ pos (unsigned_abs h); high = c +ℤ pos (unsigned_abs h); ordered = around-ordered c h }
+
+-- the one number v
+abbrev pub just : ℤ → Interval
+just v = record { low = v; high = v; ordered = just-ordered v }
 
 -- the interval lies between -2^25 and 2^25
 pub record IsSmall (i : Interval) : Type 0 where

@@ -1,7 +1,8 @@
 //! What the geometry of rectangles asks of one axis.
 
-ghost use Rattle.std.specs.Prelude.{◌↔◌, pos, ◌≤ℤ◌, IsTrue, IfSome, IfNone};
-ghost use Rattle.geo_rect.specs.Axis.{IsSmall, IsGap, IsNear, IsOverlap, ShareNoNumber, IsWidened};
+ghost use Rattle.std.specs.Prelude.{◌≡◌, ◌↔◌, ◌^◌, ◌≤◌, pos, ◌≤ℤ◌, IsTrue, IfSome, IfNone};
+ghost use Rattle.geo_rect.specs.Axis.{IsSmall, IsGap, IsNear, IsOverlap, ShareNoNumber, IsWidened, just};
+ghost use Rattle.geo_rect.specs.Line.{IsGapBetween, IsFarthest, IsImage, HasImages};
 
 use crate::shapes::Interval;
 
@@ -41,5 +42,63 @@ pub fn widened(i: Interval, g: i32) -> Interval
     Interval {
         low: i.low - g + 1,
         high: i.high + g - 1,
+    }
+}
+
+/// The one number `v`.
+pub fn just(v: i32) -> Interval
+    ensures { result ≡ just v }
+{
+    Interval { low: v, high: v }
+}
+
+/// The least distance from a number of `a` to a number of `b`.
+pub fn gap_between(a: Interval, b: Interval) -> u32
+    requires first { IsSmall a }
+    requires second { IsSmall b }
+    ensures exact { IsGapBetween a b result }
+    ensures small { result ≤ 2 ^ 26 }
+{
+    if a.high < b.low {
+        return (b.low - a.high) as u32;
+    }
+    if b.high < a.low {
+        return (a.low - b.high) as u32;
+    }
+    0
+}
+
+/// The greatest distance from `a` to a number of `b`.
+pub fn farthest(a: Interval, b: Interval) -> u32
+    requires first { IsSmall a }
+    requires second { IsSmall b }
+    ensures exact { IsFarthest a b result }
+    ensures small { result ≤ 2 ^ 26 }
+{
+    let before = a.low - b.low;
+    let after = b.high - a.high;
+    if before > after.max(0) {
+        return before as u32;
+    }
+    if after > 0 {
+        return after as u32;
+    }
+    0
+}
+
+/// The image of `v` under clamping into `e`.
+pub fn image(v: i32, e: Interval) -> i32
+    ensures { IsImage e v result }
+{
+    v.max(e.low).min(e.high)
+}
+
+/// The images in `e` of the numbers of `i`.
+pub fn images(i: Interval, e: Interval) -> Interval
+    ensures { HasImages i e result }
+{
+    Interval {
+        low: image(i.low, e),
+        high: image(i.high, e),
     }
 }

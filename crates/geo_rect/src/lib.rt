@@ -14,8 +14,13 @@ mod memory;
 mod shapes;
 
 pub use decided::tests_are_exact;
-pub use geometry::{grown, meet, too_close};
-pub use geometry_laws::grown_serves_squares;
+pub use geometry::{clamp, dist, edge, grown, meet, reach, too_close};
+pub use geometry_laws::{
+    a_far_detour_is_long, a_step_changes_the_distance_by_one, clamping_gives_the_nearest,
+    clamping_loses_nothing, distance_is_a_distance, distance_obeys_the_triangle,
+    grown_serves_squares, parts_lie_within, reach_covers, there_is_one_number,
+    there_is_one_rectangle,
+};
 pub use ids::{ClassId, KindId, Label, LayerId, NetId, Node, Spot};
 pub use lists::{List, Text};
 pub use memory::NoMemory;

@@ -1,0 +1,6 @@
+use Rattle.std.proofs.Common.{arith}
+use Rattle.geo_rect.proofs.Lifts.{reach_from}
+use Rattle.geo_rect.proofs.geometry.reach.Goals as goal
+
+pub returns-clause-exact : goal.returns-clause-exact
+returns-clause-exact c = reach_from c.args.a c.args.b _ _ _ _ c.columns.ensures c.columns-2.ensures c.rows.ensures c.rows-2.ensures _ _ _ (omega arith) c.farthest-columns.ensures.exact c.farthest-rows.ensures.exact
