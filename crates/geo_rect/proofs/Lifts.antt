@@ -2,9 +2,9 @@
 use Rattle.std.proofs.Common.{ℕ, ℤ, ◌≡◌, ◌+◌, subst, sym}
 use Rattle.geo_rect.specs.declared.shapes.Interval.{Interval}
 use Rattle.geo_rect.specs.declared.shapes.Rect.{Rect}
-use Rattle.geo_rect.specs.Axis.{IsNear, IsWidened}
+use Rattle.geo_rect.specs.Axis.{IsWidened}
 use Rattle.geo_rect.specs.Line.{IsGapBetween, IsFarthest, HasImages}
-use Rattle.geo_rect.specs.Plane.{columns, rows, rect_of, IsTooClose, IsGrown}
+use Rattle.geo_rect.specs.Plane.{columns, rows, rect_of, IsGrown}
 use Rattle.geo_rect.specs.Distance.{IsDistance, IsReach}
 use Rattle.geo_rect.specs.Images.{IsClamped}
 use Rattle.geo_rect.proofs.Distances.{distance_of}
@@ -29,19 +29,6 @@ grown_of b r g z i j k l eg ei ej er o q =
 
 -- of two calls on the columns and two on the rows
 module _ (a b : Rect) (i i' j j' : Interval) (ei : i ≡ columns a) (ei' : i' ≡ columns b) (ej : j ≡ rows a) (ej' : j' ≡ rows b) where
-  pub too_close_from : (s z : ℤ) → z ≡ s → IsNear i i' z → IsNear j j' z → IsTooClose a b s
-  too_close_from s z es n m =
-      let t : IsTooClose a b z = record {
-        across = moved (λ x y. IsNear x y z) (columns a) (columns b) i i' ei ei' n;
-        up = moved (λ x y. IsNear x y z) (rows a) (rows b) j j' ej ej' m;
-      } in
-      subst (λ (y : ℤ). IsTooClose a b y) es t
-
-  pub near_up : (s z : ℤ) → z ≡ s → IsTooClose a b s → IsNear j j' z
-  near_up s z es t =
-      let n : IsNear j j' s = moved (λ x y. IsNear x y s) j j' (rows a) (rows b) (sym ej) (sym ej') t.up in
-      subst (λ (y : ℤ). IsNear j j' y) (sym es) n
-
   pub distance_from : (m n k : ℕ) → m + n ≡ k → IsGapBetween i i' m → IsGapBetween j j' n → IsDistance a b k
   distance_from m n k e g h =
       subst (λ (z : ℕ). IsDistance a b z) e

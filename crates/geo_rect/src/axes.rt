@@ -1,7 +1,8 @@
 //! What the geometry of rectangles asks of one axis.
 
-ghost use Rattle.std.specs.Prelude.{◌≡◌, ◌↔◌, ◌^◌, ◌≤◌, pos, ◌≤ℤ◌, IsTrue, IfSome, IfNone};
-ghost use Rattle.geo_rect.specs.Axis.{IsSmall, IsGap, IsNear, IsOverlap, ShareNoNumber, IsWidened, just};
+ghost use Rattle.std.specs.Prelude.{◌≡◌, ◌^◌, ◌≤◌, ◌+ℤ◌, pos, ◌≤ℤ◌, int_lt, IfSome, IfNone};
+ghost use Rattle.geo_rect.specs.Tests.{are_near};
+ghost use Rattle.geo_rect.specs.Axis.{IsSmall, IsGap, IsOverlap, ShareNoNumber, IsWidened, just};
 ghost use Rattle.geo_rect.specs.Line.{IsGapBetween, IsFarthest, IsImage, HasImages};
 
 use crate::shapes::Interval;
@@ -19,17 +20,21 @@ pub fn overlap(a: Interval, b: Interval) -> Option<Interval>
     Some(Interval { low, high })
 }
 
+/// Whether `from` comes before the number that is `s` after `to`.
+fn begins_before(from: i32, to: i32, s: i32) -> bool
+    ensures { result ≡ int_lt from (to +ℤ s) }
+{
+    i64::from(from) < i64::from(to) + i64::from(s)
+}
+
 /// Whether what separates `a` and `b` is less than `s`.
 pub fn near(a: Interval, b: Interval, s: i32) -> bool
-    requires first { IsSmall a }
-    requires second { IsSmall b }
-    requires gap { IsGap s }
-    ensures { IsTrue result ↔ IsNear a b s }
+    ensures { result ≡ are_near a b s }
 {
-    if b.low >= a.high + s {
+    if !begins_before(b.low, a.high, s) {
         return false;
     }
-    a.low < b.high + s
+    begins_before(a.low, b.high, s)
 }
 
 /// The numbers that are less than `g` away from `i`. Here `g` is at least 1.

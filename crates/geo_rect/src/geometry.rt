@@ -3,6 +3,7 @@
 ghost use Rattle.std.specs.Prelude.{◌≡◌, ◌↔◌, ◌^◌, ◌≤◌, pos, ◌≤ℤ◌, IsTrue, IfSome, IfNone};
 ghost use Rattle.geo_rect.specs.Axis.{IsGap};
 ghost use Rattle.geo_rect.specs.Plane.{IsBounded, IsTooClose, IsMeet, ShareNoPoint, IsGrown};
+ghost use Rattle.geo_rect.specs.Tests.{are_too_close};
 ghost use Rattle.geo_rect.specs.Distance.{IsDistance, IsReach};
 ghost use Rattle.geo_rect.specs.Images.{IsClamped};
 ghost use Rattle.geo_rect.specs.Edges.{IsEdge, HasNoEdge, right_band, left_band, upper_band, lower_band};
@@ -31,13 +32,10 @@ pub fn grown(b: Rect, g: i32) -> Rect
     Rect::of(widened(b.columns(), g), widened(b.rows(), g))
 }
 
-/// Whether the separations of `a` and `b`, across and up, are both less than `s`, which is from 0
-/// to 2^25. All coordinates lie between -2^25 and 2^25.
+/// Whether the separations of `a` and `b`, across and up, are both less than `s`.
 pub fn too_close(a: Rect, b: Rect, s: i32) -> bool
-    requires first { IsBounded a }
-    requires second { IsBounded b }
-    requires gap { IsGap s }
-    ensures { IsTrue result ↔ IsTooClose a b s }
+    ensures fact { IsTrue result ↔ IsTooClose a b s }
+    ensures test { result ≡ are_too_close a b s }
 {
     if !near(a.columns(), b.columns(), s) {
         return false;

@@ -1,12 +1,10 @@
-use Rattle.std.proofs.Common.{IsTrue, arith, rules}
-use Rattle.std.proofs.lemmas.Int.{ints}
-use Rattle.geo_rect.specs.Plane.{IsTooClose}
-use Rattle.geo_rect.proofs.Lifts.{too_close_from, near_up}
+use Rattle.std.proofs.Common.{◌≡◌, rules}
+use Rattle.std.proofs.lemmas.Bool.Decides.{Decides-at}
+use Rattle.geo_rect.specs.Tests.{are_too_close}
+use Rattle.geo_rect.proofs.Tests.{Decides-are_too_close}
 use Rattle.geo_rect.proofs.geometry.too_close.Goals as goal
 
-pub returns : goal.returns
-returns c =
-    let t : IsTrue c.near.result = search rules in (
-      λ e. too_close_from c.args.a c.args.b _ _ _ _ c.columns.ensures c.columns-2.ensures c.rows.ensures c.rows-2.ensures c.args.s _ (omega (arith, ints)) (c.near.ensures.0 t) (c.near-2.ensures.0 e),
-      λ (n : IsTooClose c.args.a c.args.b c.args.s). c.near-2.ensures.1 (near_up c.args.a c.args.b _ _ _ _ c.columns.ensures c.columns-2.ensures c.rows.ensures c.rows-2.ensures c.args.s _ (omega (arith, ints)) n),
-    )
+pub returns-clause-fact : goal.returns-clause-fact
+returns-clause-fact c =
+    let test : c.near-2.result ≡ are_too_close c.args.a c.args.b c.args.s = search rules in
+    Decides-at c.near-2.result _ test (Decides-are_too_close c.args.a c.args.b c.args.s)
