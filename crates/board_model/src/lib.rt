@@ -5,10 +5,12 @@
 mod accessors;
 mod boards;
 mod commands;
+mod gaps;
 mod limits;
 mod made;
 mod parts;
 mod shapes;
+mod states;
 
 pub use boards::Board;
 pub use commands::Command;
@@ -19,3 +21,4 @@ pub use limits::{
 pub use made::{Conn, Leg, Made};
 pub use parts::{Block, BoardParts, Pin, Rule, ViaKind};
 pub use shapes::{Owned, Shape, Violation};
+pub use states::all_shapes;
