@@ -1,2 +1,3 @@
+pub mod Decisions
 pub mod Layers
 pub mod StateShapes

@@ -8,6 +8,7 @@ mod commands;
 mod gaps;
 mod limits;
 mod made;
+mod outlines;
 mod parts;
 mod shapes;
 mod states;
@@ -19,6 +20,7 @@ pub use limits::{
     MAX_NAME, MAX_NETS, MAX_PINS, MAX_SIDE,
 };
 pub use made::{Conn, Leg, Made};
+pub use outlines::is_on_board;
 pub use parts::{Block, BoardParts, Pin, Rule, ViaKind};
 pub use shapes::{Owned, Shape, Violation};
 pub use states::all_shapes;
