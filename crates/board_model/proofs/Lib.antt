@@ -1,3 +1,5 @@
 pub mod Decisions
+pub mod Filtered
 pub mod Layers
+pub mod NameLists
 pub mod StateShapes
