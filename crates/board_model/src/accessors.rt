@@ -5,19 +5,10 @@ ghost use Rattle.board_model.specs.Violations.{violations_of};
 ghost use Rattle.board_model.specs.Shapes.{state_shapes};
 
 use crate::boards::Board;
-use crate::parts::{Block, BoardParts, Pin, Rule, ViaKind};
-use geo_rect::{ClassId, KindId, LayerId, NetId, NoMemory};
-use std::alloc::Global;
+use crate::parts::{Block, Pin, Rule, ViaKind};
+use geo_rect::{ClassId, KindId, LayerId, NetId};
 
 impl Board {
-    /// The board of these parts, which keep every rule of the board text.
-    pub fn build(_alloc: Global, parts: BoardParts) -> Result<Board, NoMemory>
-        requires { IsBoard parts }
-        ensures { IfOk result (λ b. b.parts ≡ parts) }
-    {
-        Ok(Board { parts })
-    }
-
     /// In micrometres: the points of the board have x from 0 to this.
     pub fn width(&self) -> i32
         ensures { result ≡ self.now.parts.width }

@@ -8,6 +8,7 @@ mod commands;
 mod gaps;
 mod limits;
 mod made;
+mod name_index;
 mod names;
 mod net_pins;
 mod outlines;
