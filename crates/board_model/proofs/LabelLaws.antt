@@ -184,9 +184,11 @@ module _ (b : BoardParts) (r : PlaneRule) (p : Point) where
       (says_within (label_of b r xs p) xs ys (λ s h c. (w s h).0 c) (λ s h c. (w s h).1 c) (says_label xs))
       (says_label ys)
 
-  pub label_of-nil : label_of b r [] p ≡ bare_label b r p
-  unfolding label_of
-  label_of-nil = refl
+  pub label_of-nil_fits : FitsBoard b r p → label_of b r [] p ≡ Free
+  label_of-nil_fits f = (says_what [] Free).1 (record { fits = f; clear = λ s c h. none_in_nil s c })
+
+  pub label_of-nil_leaves : ¬ FitsBoard b r p → label_of b r [] p ≡ Many
+  label_of-nil_leaves out = (says_what [] Many).1 (inl out)
 
   pub label_of-push : (shapes : List Shape) (s : Shape) → label_of b r (shapes ++ s ∷ []) p ≡ with_shape r p (label_of b r shapes p) s
   unfolding label_of

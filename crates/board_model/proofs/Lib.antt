@@ -1,2 +1,3 @@
+pub mod LabelHits
 pub mod LabelLaws
 pub mod LabelTests

@@ -1,5 +1,5 @@
 -- The label of each point of a plane: whose shapes the square round the point is too close to.
-use Rattle.std.specs.Prelude.{◌≡◌, ◌≢◌, ◌==◌, nat_le, ℤ, Bool, false, true, ◌&&◌, List, Contains, fold, Option, Some, None, IsSomeAnd, if◌then◌else◌, ◌⊎◌, ⊤}
+use Rattle.std.specs.Prelude.{◌≡◌, ◌≢◌, ◌==◌, ◌≤◌, nat_le, ℤ, Bool, false, true, ◌&&◌, List, Contains, fold, Option, Some, None, IsSomeAnd, if◌then◌else◌, ◌⊎◌, ⊤}
 use Rattle.geo_rect.specs.declared.ids.ClassId.{ClassId}
 use Rattle.geo_rect.specs.declared.ids.KindId.{KindId}
 use Rattle.geo_rect.specs.declared.ids.Label.{Label}
@@ -31,6 +31,11 @@ wire_plane b l c = record {
   half = (rule_of b l c).half;
   gap_from = λ (s : Shape). if s.layer.0 == l.0 then Some (gap_to b l c s.owner) else None;
 }
+
+-- a kind's via has a pad on the layer
+pub record IsInSpan (k : ViaKind) (l : LayerId) : Type 0 where
+  pub from : k.first.0 ≤ l.0
+  pub to : l.0 ≤ k.last.0
 
 -- whether a kind's via has a pad on the layer
 abbrev pub is_in_span : ViaKind → LayerId → Bool

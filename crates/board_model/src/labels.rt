@@ -2,17 +2,34 @@
 //! of `proofs/LabelLaws.antt`.
 
 ghost use Rattle.std.specs.Prelude.{◌≡◌, ◌↔◌, List, [], ◌∷◌, ◌++◌, Contains};
+ghost use Rattle.geo_rect.specs.declared.ids.ClassId.{ClassId};
 ghost use Rattle.geo_rect.specs.declared.ids.KindId.{KindId};
+ghost use Rattle.geo_rect.specs.declared.ids.LayerId.{LayerId};
 ghost use Rattle.geo_rect.specs.declared.ids.NetId.{NetId};
 ghost use Rattle.geo_rect.specs.declared.ids.Node.{Node};
 ghost use Rattle.geo_rect.specs.declared.shapes.Point.{Point};
+ghost use Rattle.geo_rect.specs.Plane.{IsTooClose, square};
 ghost use Rattle.board_model.specs.declared.parts.BoardParts.{BoardParts};
 ghost use Rattle.board_model.specs.declared.shapes.Shape.{Shape};
-ghost use Rattle.board_model.specs.Lookup.{class_of};
+ghost use Rattle.board_model.specs.Lookup.{rule_of, pad_of, kind_of, class_of};
 ghost use Rattle.board_model.specs.Shapes.{place_of};
-ghost use Rattle.board_model.specs.Labels.{PlaneRule, wire_plane, via_plane, Hits, joined, bare_label, label_of, IsFree, IsLeftTo, IsTakenBy, IsBarred, IsPassable, IsViaPassable};
+ghost use Rattle.board_model.specs.Spacing.{gap_to};
+ghost use Rattle.board_model.specs.Labels.{PlaneRule, wire_plane, via_plane, IsInSpan, Hits, FitsBoard, joined, label_of, IsFree, IsLeftTo, IsTakenBy, IsBarred, IsPassable, IsViaPassable};
 
 use geo_rect::Label;
+
+/// When a shape hits a point: it is on the plane's layer, or on one of the kind's span, and the
+/// square of a wire, or of a pad, is too close to it for the gap on that layer.
+pub fn hits_are_squares_too_close()
+    ensures wire { (b : BoardParts) (l : LayerId) (c : ClassId) (p : Point) (s : Shape)
+        → Hits (wire_plane b l c) p s
+        ↔ ((s.layer ≡ l)
+            × IsTooClose (square p (rule_of b l c).half) s.area (gap_to b l c s.owner)) }
+    ensures via { (b : BoardParts) (k : KindId) (c : ClassId) (p : Point) (s : Shape)
+        → Hits (via_plane b k c) p s
+        ↔ (IsInSpan (kind_of b k) s.layer
+            × IsTooClose (square p (pad_of b k c)) s.area (gap_to b s.layer c s.owner)) }
+{}
 
 /// What each label says, both ways.
 pub fn labels_say_what_hits()
@@ -38,7 +55,9 @@ pub fn labels_ignore_order()
 /// How a label grows shape by shape.
 pub fn labels_take_shapes()
     ensures bare { (b : BoardParts) (r : PlaneRule) (p : Point)
-        → label_of b r [] p ≡ bare_label b r p }
+        → FitsBoard b r p → label_of b r [] p ≡ Label.Free }
+    ensures frame { (b : BoardParts) (r : PlaneRule) (p : Point)
+        → ¬ FitsBoard b r p → label_of b r [] p ≡ Label.Many }
     ensures hit { (b : BoardParts) (r : PlaneRule) (shapes : List Shape) (s : Shape) (p : Point)
         → Hits r p s
         → label_of b r (shapes ++ s ∷ []) p ≡ joined (label_of b r shapes p) s.owner }

@@ -1,8 +1,11 @@
-use Rattle.board_model.proofs.LabelLaws.{label_of-nil, label_of-push_hit, label_of-push_missed}
+use Rattle.board_model.proofs.LabelLaws.{label_of-nil_fits, label_of-nil_leaves, label_of-push_hit, label_of-push_missed}
 use Rattle.board_model.proofs.labels.labels_take_shapes.Goals as goal
 
 pub returns-clause-bare : goal.returns-clause-bare
-returns-clause-bare c = label_of-nil
+returns-clause-bare c = label_of-nil_fits
+
+pub returns-clause-frame : goal.returns-clause-frame
+returns-clause-frame c = label_of-nil_leaves
 
 pub returns-clause-hit : goal.returns-clause-hit
 returns-clause-hit c = λ b r shapes s p h. label_of-push_hit b r p shapes s h
