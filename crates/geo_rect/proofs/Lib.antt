@@ -1,4 +1,4 @@
 pub mod Lifts
 pub mod Same
-pub mod Squares
 pub mod Tests
+pub mod Squares
