@@ -78,6 +78,7 @@ impl Board {
         self.parts.pads.as_slice()[k.0 as usize * self.parts.classes.len() + c.0 as usize]
     }
 
+    /// The layers that a kind of via joins, and what one costs.
     pub fn kind(&self, k: KindId) -> ViaKind
         requires { k.0 < length self.now.parts.kinds }
         ensures { result ≡ kind_of self.now.parts k }
@@ -85,9 +86,11 @@ impl Board {
         self.parts.kinds.as_slice()[k.0 as usize]
     }
 
+    /// The class of a net.
     pub fn class_of(&self, n: NetId) -> ClassId
         requires { n.0 < length self.now.parts.net_names }
-        ensures { result ≡ class_of self.now.parts n }
+        ensures class { result ≡ class_of self.now.parts n }
+        ensures known { result.0 < length self.now.parts.classes }
     {
         self.parts.net_classes.as_slice()[n.0 as usize]
     }

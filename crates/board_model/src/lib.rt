@@ -5,11 +5,14 @@
 mod accessors;
 mod boards;
 mod commands;
+mod gaps;
 mod labels;
 mod limits;
 mod made;
+mod outlines;
 mod parts;
 mod shapes;
+mod states;
 
 pub use boards::Board;
 pub use commands::Command;
@@ -21,5 +24,7 @@ pub use limits::{
     MAX_NAME, MAX_NETS, MAX_PINS, MAX_SIDE,
 };
 pub use made::{Conn, Leg, Made};
+pub use outlines::is_on_board;
 pub use parts::{Block, BoardParts, Pin, Rule, ViaKind};
 pub use shapes::{Owned, Shape, Violation};
+pub use states::all_shapes;
