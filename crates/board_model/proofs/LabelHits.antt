@@ -1,5 +1,5 @@
 -- When a shape hits a point of a wire plane or of a via plane.
-use Rattle.std.proofs.Common.{◌≡◌, ℕ, ◌≤◌, ℤ, Bool, true, false, eqb, leb, cond, Option, Some, None, ◌↔◌, refl, ap}
+use Rattle.std.proofs.Common.{◌≡◌, ℕ, ℤ, Bool, true, false, eqb, leb, cond, Some, None, ◌↔◌, refl, ap}
 use Rattle.std.specs.Prelude.{IsSomeAnd}
 use Rattle.std.proofs.lemmas.Bool.{false≢true, eqb-true, eq-eqb, and_parts, and_from, leb-true, le-leb}
 use Rattle.geo_rect.specs.declared.ids.ClassId.{ClassId}

@@ -1,7 +1,7 @@
 -- What each label says, that the labels of a list depend on its members alone, and how they grow.
-use Rattle.std.proofs.Common.{◌≡◌, ◌≢◌, ◌++◌, ◌<◌, ℕ, List, [], ◌∷◌, length, Option, Some, None, Bool, true, false, eqb, cond, fold, ◌⊎◌, inl, inr, ⊎_elim, ◌↔◌, refl, sym, ◌∙◌, ap, subst, append_assoc, append-nil, arith}
-use Rattle.std.specs.Prelude.{Contains, if◌then◌else◌, ◌==◌, ⊤}
-use Rattle.std.proofs.lemmas.Bool.{false≢true, both_ways, cond_both, cond-true, cond-false, eqb-true, eqb-false, eq-eqb, false_from_ne_true}
+use Rattle.std.proofs.Common.{◌≡◌, ◌≢◌, ◌++◌, ℕ, List, [], ◌∷◌, Option, Some, None, true, false, eqb, fold, inl, inr, ◌↔◌, refl, sym, ◌∙◌, ap, subst, append_assoc, append-nil, arith}
+use Rattle.std.specs.Prelude.{Contains, ◌==◌}
+use Rattle.std.proofs.lemmas.Bool.{both_ways, cond_both, cond-true, cond-false, eqb-true, eqb-false, false_from_ne_true}
 use Rattle.std.proofs.lemmas.List.Elements.{Contains-append_left, Contains-push, Contains-push_cases}
 use Rattle.std.proofs.lemmas.List.Sums.{fold_push}
 use Rattle.std.proofs.lemmas.Option.{same_Some, none-some}
@@ -12,8 +12,9 @@ use Rattle.geo_rect.specs.declared.shapes.Point.{Point}
 use Rattle.board_model.specs.declared.parts.BoardParts.{BoardParts}
 use Rattle.board_model.specs.declared.shapes.Shape.{Shape}
 use Rattle.board_model.specs.Spacing.{keeps_outline}
-use Rattle.board_model.specs.Labels.{PlaneRule, Hits, FitsBoard, does_hit, joined, with_shape, bare_label, label_of, IsHitBy, IsHitByTwoNets, IsFree, IsLeftTo, IsTakenBy, IsBarred, Admits}
-use Rattle.board_model.proofs.LabelTests.{Decides-does_hit, Decides-keeps_outline}
+use Rattle.board_model.specs.Labels.{PlaneRule, Hits, FitsBoard, does_hit, joined, with_shape, bare_label, label_among, IsHitBy, IsFree, IsLeftTo, IsTakenBy, IsBarred, Admits}
+use Rattle.board_model.proofs.Decisions.{Decides-keeps_outline}
+use Rattle.board_model.proofs.LabelTests.{Decides-does_hit}
 use Rattle.geo_rect.specs.Plane.{square}
 
 -- what a label says of the shapes
@@ -36,10 +37,10 @@ module _ (b : BoardParts) (r : PlaneRule) (p : Point) where
   barred_within : (xs ys : List Shape) → Within xs ys → IsBarred b r xs p → IsBarred b r ys p
   barred_within xs ys w h =
       elim h [
-        inl out ↦ inl out
-      | inr k ↦ inr (elim k [
-          inl blocked ↦ inl (hit_within xs ys None w blocked)
-        | inr two ↦ inr (record {
+        | inl out ↦ inl out
+        | inr k ↦ inr (elim k [
+          | inl blocked ↦ inl (hit_within xs ys None w blocked)
+          | inr two ↦ inr (record {
             first = two.first;
             second = two.second;
             apart = two.apart;
@@ -62,8 +63,8 @@ module _ (b : BoardParts) (r : PlaneRule) (p : Point) where
   free_not_barred : (shapes : List Shape) → IsFree b r shapes p → IsBarred b r shapes p → ⊥
   free_not_barred shapes f h =
       elim h [
-        inl out ↦ out f.fits
-      | inr k ↦ elim k [ inl blocked ↦ free_not_hit shapes None f blocked | inr two ↦ free_not_hit shapes (Some two.first) f two.by_first ]
+        | inl out ↦ out f.fits
+        | inr k ↦ elim k [ inl blocked ↦ free_not_hit shapes None f blocked | inr two ↦ free_not_hit shapes (Some two.first) f two.by_first ]
       ]
 
   left_owner : (shapes : List Shape) (n : NetId) (o : Option NetId) → IsLeftTo b r shapes p n → IsHitBy r shapes p o → o ≡ Some n
@@ -72,10 +73,10 @@ module _ (b : BoardParts) (r : PlaneRule) (p : Point) where
   left_not_barred : (shapes : List Shape) (n : NetId) → IsLeftTo b r shapes p n → IsBarred b r shapes p → ⊥
   left_not_barred shapes n l h =
       elim h [
-        inl out ↦ out l.fits
-      | inr k ↦ elim k [
-          inl blocked ↦ none-some n (left_owner shapes n None l blocked)
-        | inr two ↦ two.apart (same_Some _ _ (left_owner shapes n (Some two.first) l two.by_first ∙ sym (left_owner shapes n (Some two.second) l two.by_second)))
+        | inl out ↦ out l.fits
+        | inr k ↦ elim k [
+          | inl blocked ↦ none-some n (left_owner shapes n None l blocked)
+          | inr two ↦ two.apart (same_Some _ _ (left_owner shapes n (Some two.first) l two.by_first ∙ sym (left_owner shapes n (Some two.second) l two.by_second)))
         ]
       ]
 
@@ -112,8 +113,8 @@ module _ (b : BoardParts) (r : PlaneRule) (p : Point) where
     left_now n f own e = record {
       fits = f;
       own = λ x c k. elim (Contains-push_cases shapes s x c) [
-        inl before ↦ own x before k
-      | inr same ↦ subst (λ (y : Shape). y.owner ≡ Some n) same e
+        | inl before ↦ own x before k
+        | inr same ↦ subst (λ (y : Shape). y.owner ≡ Some n) same e
       ];
     }
 
@@ -148,8 +149,8 @@ module _ (b : BoardParts) (r : PlaneRule) (p : Point) where
       says_within a shapes (shapes ++ s ∷ [])
       (λ x k c. Contains-append_left shapes (s ∷ []) x c)
       (λ x k c. elim (Contains-push_cases shapes s x c) [
-        inl before ↦ before
-      | inr same ↦ absurd (miss (subst (λ (y : Shape). Hits r p y) (sym same) k))
+        | inl before ↦ before
+        | inr same ↦ absurd (miss (subst (λ (y : Shape). Hits r p y) (sym same) k))
       ])
       h
 
@@ -167,39 +168,39 @@ module _ (b : BoardParts) (r : PlaneRule) (p : Point) where
       let before : Says b r ((done ++ s ∷ []) ++ rest) p (fold (with_shape r p) (with_shape r p a s) rest) = says_all rest (done ++ s ∷ []) (with_shape r p a s) (says_more done s a h) in
       subst (λ (l : List Shape). Says b r l p (fold (with_shape r p) (with_shape r p a s) rest)) (append_assoc done (s ∷ []) rest) before
 
-  says_label : (shapes : List Shape) → Says b r shapes p (label_of b r shapes p)
-  unfolding label_of
+  says_label : (shapes : List Shape) → Says b r shapes p (label_among b r shapes p)
+  unfolding label_among
   says_label shapes = says_all shapes [] (bare_label b r p) says_bare
 
   -- the laws
-  pub says_what : (shapes : List Shape) (a : Label) → (label_of b r shapes p ≡ a) ↔ Says b r shapes p a
+  pub says_what : (shapes : List Shape) (a : Label) → (label_among b r shapes p ≡ a) ↔ Says b r shapes p a
   says_what shapes a = (
     λ e. subst (λ (c : Label). Says b r shapes p c) e (says_label shapes),
-    λ h. says_one shapes (label_of b r shapes p) a (says_label shapes) h,
+    λ h. says_one shapes (label_among b r shapes p) a (says_label shapes) h,
   )
 
-  pub same_hits : (xs ys : List Shape) → ((s : Shape) → Hits r p s → Contains xs s ↔ Contains ys s) → label_of b r xs p ≡ label_of b r ys p
+  pub same_hits : (xs ys : List Shape) → ((s : Shape) → Hits r p s → Contains xs s ↔ Contains ys s) → label_among b r xs p ≡ label_among b r ys p
   same_hits xs ys w =
-      says_one ys (label_of b r xs p) (label_of b r ys p)
-      (says_within (label_of b r xs p) xs ys (λ s h c. (w s h).0 c) (λ s h c. (w s h).1 c) (says_label xs))
+      says_one ys (label_among b r xs p) (label_among b r ys p)
+      (says_within (label_among b r xs p) xs ys (λ s h c. (w s h).0 c) (λ s h c. (w s h).1 c) (says_label xs))
       (says_label ys)
 
-  pub label_of-nil_fits : FitsBoard b r p → label_of b r [] p ≡ Free
-  label_of-nil_fits f = (says_what [] Free).1 (record { fits = f; clear = λ s c h. none_in_nil s c })
+  pub label_among-nil_fits : FitsBoard b r p → label_among b r [] p ≡ Free
+  label_among-nil_fits f = (says_what [] Free).1 (record { fits = f; clear = λ s c h. none_in_nil s c })
 
-  pub label_of-nil_leaves : ¬ FitsBoard b r p → label_of b r [] p ≡ Many
-  label_of-nil_leaves out = (says_what [] Many).1 (inl out)
+  pub label_among-nil_leaves : ¬ FitsBoard b r p → label_among b r [] p ≡ Many
+  label_among-nil_leaves out = (says_what [] Many).1 (inl out)
 
-  pub label_of-push : (shapes : List Shape) (s : Shape) → label_of b r (shapes ++ s ∷ []) p ≡ with_shape r p (label_of b r shapes p) s
-  unfolding label_of
-  label_of-push shapes s = fold_push (with_shape r p) (bare_label b r p) shapes s
+  pub label_among-push : (shapes : List Shape) (s : Shape) → label_among b r (shapes ++ s ∷ []) p ≡ with_shape r p (label_among b r shapes p) s
+  unfolding label_among
+  label_among-push shapes s = fold_push (with_shape r p) (bare_label b r p) shapes s
 
-  pub label_of-push_hit : (shapes : List Shape) (s : Shape) → Hits r p s → label_of b r (shapes ++ s ∷ []) p ≡ joined (label_of b r shapes p) s.owner
-  label_of-push_hit shapes s h = label_of-push shapes s ∙ cond-true (does_hit r p s) _ _ ((Decides-does_hit r p s).1 h)
+  pub label_among-push_hit : (shapes : List Shape) (s : Shape) → Hits r p s → label_among b r (shapes ++ s ∷ []) p ≡ joined (label_among b r shapes p) s.owner
+  label_among-push_hit shapes s h = label_among-push shapes s ∙ cond-true (does_hit r p s) _ _ ((Decides-does_hit r p s).1 h)
 
-  pub label_of-push_missed : (shapes : List Shape) (s : Shape) → ¬ Hits r p s → label_of b r (shapes ++ s ∷ []) p ≡ label_of b r shapes p
-  label_of-push_missed shapes s miss =
-      label_of-push shapes s ∙ cond-false (does_hit r p s) _ _ (false_from_ne_true _ (λ e. miss ((Decides-does_hit r p s).0 e)))
+  pub label_among-push_missed : (shapes : List Shape) (s : Shape) → ¬ Hits r p s → label_among b r (shapes ++ s ∷ []) p ≡ label_among b r shapes p
+  label_among-push_missed shapes s miss =
+      label_among-push shapes s ∙ cond-false (does_hit r p s) _ _ (false_from_ne_true _ (λ e. miss ((Decides-does_hit r p s).0 e)))
 
   left_from : (shapes : List Shape) (n : NetId) (a : Label) → Says b r shapes p a → Admits a n → IsLeftTo b r shapes p n
   left_from shapes n Free h t = record { fits = h.fits; own = λ s c k. absurd (h.clear s c k) }
@@ -211,8 +212,8 @@ module _ (b : BoardParts) (r : PlaneRule) (p : Point) where
   admits_from shapes n (One m) h l = same_Some _ _ (left_owner shapes n (Some m) l h.hit)
   admits_from shapes n Many h l = left_not_barred shapes n l h
 
-  pub admits_is_left : (shapes : List Shape) (n : NetId) → Admits (label_of b r shapes p) n ↔ IsLeftTo b r shapes p n
+  pub admits_is_left : (shapes : List Shape) (n : NetId) → Admits (label_among b r shapes p) n ↔ IsLeftTo b r shapes p n
   admits_is_left shapes n = (
-    λ t. left_from shapes n (label_of b r shapes p) (says_label shapes) t,
-    λ l. admits_from shapes n (label_of b r shapes p) (says_label shapes) l,
+    λ t. left_from shapes n (label_among b r shapes p) (says_label shapes) t,
+    λ l. admits_from shapes n (label_among b r shapes p) (says_label shapes) l,
   )

@@ -1,5 +1,5 @@
 -- The label of each point of a plane: whose shapes the square round the point is too close to.
-use Rattle.std.specs.Prelude.{◌≡◌, ◌≢◌, ◌==◌, ◌≤◌, nat_le, ℤ, Bool, false, true, ◌&&◌, List, Contains, fold, Option, Some, None, IsSomeAnd, if◌then◌else◌, ◌⊎◌, ⊤}
+use Rattle.std.specs.Prelude.{◌≡◌, ◌≢◌, ◌==◌, ◌≤◌, nat_le, ℤ, Bool, false, ◌&&◌, List, Contains, fold, Option, Some, None, IsSomeAnd, if◌then◌else◌, ◌⊎◌, ⊤}
 use Rattle.geo_rect.specs.declared.ids.ClassId.{ClassId}
 use Rattle.geo_rect.specs.declared.ids.KindId.{KindId}
 use Rattle.geo_rect.specs.declared.ids.Label.{Label}
@@ -84,8 +84,8 @@ abbrev pub bare_label : BoardParts → PlaneRule → Point → Label
 bare_label b r p = if keeps_outline b (square p r.half) then Free else Many
 
 -- the label of p among these shapes
-unfoldable pub label_of : BoardParts → PlaneRule → List Shape → Point → Label
-label_of b r shapes p = fold (with_shape r p) (bare_label b r p) shapes
+unfoldable pub label_among : BoardParts → PlaneRule → List Shape → Point → Label
+label_among b r shapes p = fold (with_shape r p) (bare_label b r p) shapes
 
 -- one of the shapes has this owner and hits p
 pub record IsHitBy (r : PlaneRule) (shapes : List Shape) (p : Point) (owner : Option NetId) : Type 0 where
@@ -129,8 +129,8 @@ Admits Many n = ⊥
 
 -- a wire of net n may pass the node
 abbrev pub IsPassable : BoardParts → List Shape → NetId → Node → Type 0
-IsPassable b shapes n v = Admits (label_of b (wire_plane b v.layer (class_of b n)) shapes (place_of v)) n
+IsPassable b shapes n v = Admits (label_among b (wire_plane b v.layer (class_of b n)) shapes (place_of v)) n
 
 -- a via of kind k of net n may stand at p
 abbrev pub IsViaPassable : BoardParts → List Shape → NetId → KindId → Point → Type 0
-IsViaPassable b shapes n k p = Admits (label_of b (via_plane b k (class_of b n)) shapes p) n
+IsViaPassable b shapes n k p = Admits (label_among b (via_plane b k (class_of b n)) shapes p) n

@@ -14,7 +14,7 @@ ghost use Rattle.board_model.specs.declared.shapes.Shape.{Shape};
 ghost use Rattle.board_model.specs.Lookup.{rule_of, pad_of, kind_of, class_of};
 ghost use Rattle.board_model.specs.Shapes.{place_of};
 ghost use Rattle.board_model.specs.Spacing.{gap_to};
-ghost use Rattle.board_model.specs.Labels.{PlaneRule, wire_plane, via_plane, IsInSpan, Hits, FitsBoard, joined, label_of, IsFree, IsLeftTo, IsTakenBy, IsBarred, IsPassable, IsViaPassable};
+ghost use Rattle.board_model.specs.Labels.{PlaneRule, wire_plane, via_plane, IsInSpan, Hits, FitsBoard, joined, label_among, IsFree, IsLeftTo, IsTakenBy, IsBarred, IsPassable, IsViaPassable};
 
 use geo_rect::Label;
 
@@ -24,21 +24,21 @@ pub fn hits_are_squares_too_close()
     ensures wire { (b : BoardParts) (l : LayerId) (c : ClassId) (p : Point) (s : Shape)
         → Hits (wire_plane b l c) p s
         ↔ ((s.layer ≡ l)
-            × IsTooClose (square p (rule_of b l c).half) s.area (gap_to b l c s.owner)) }
+        × IsTooClose (square p (rule_of b l c).half) s.area (gap_to b l c s.owner)) }
     ensures via { (b : BoardParts) (k : KindId) (c : ClassId) (p : Point) (s : Shape)
         → Hits (via_plane b k c) p s
         ↔ (IsInSpan (kind_of b k) s.layer
-            × IsTooClose (square p (pad_of b k c)) s.area (gap_to b s.layer c s.owner)) }
+        × IsTooClose (square p (pad_of b k c)) s.area (gap_to b s.layer c s.owner)) }
 {}
 
 /// What each label says, both ways.
 pub fn labels_say_what_hits()
     ensures free { (b : BoardParts) (r : PlaneRule) (shapes : List Shape) (p : Point)
-        → (label_of b r shapes p ≡ Label.Free) ↔ IsFree b r shapes p }
+        → (label_among b r shapes p ≡ Label.Free) ↔ IsFree b r shapes p }
     ensures one { (b : BoardParts) (r : PlaneRule) (shapes : List Shape) (p : Point) (n : NetId)
-        → (label_of b r shapes p ≡ Label.One n) ↔ IsTakenBy b r shapes p n }
+        → (label_among b r shapes p ≡ Label.One n) ↔ IsTakenBy b r shapes p n }
     ensures many { (b : BoardParts) (r : PlaneRule) (shapes : List Shape) (p : Point)
-        → (label_of b r shapes p ≡ Label.Many) ↔ IsBarred b r shapes p }
+        → (label_among b r shapes p ≡ Label.Many) ↔ IsBarred b r shapes p }
 {}
 
 /// A label depends on which shapes there are, and not on their order or number; and of these only
@@ -46,23 +46,23 @@ pub fn labels_say_what_hits()
 pub fn labels_ignore_order()
     ensures members { (b : BoardParts) (r : PlaneRule) (xs ys : List Shape) (p : Point)
         → ((s : Shape) → Contains xs s ↔ Contains ys s)
-        → label_of b r xs p ≡ label_of b r ys p }
+        → label_among b r xs p ≡ label_among b r ys p }
     ensures hits { (b : BoardParts) (r : PlaneRule) (xs ys : List Shape) (p : Point)
         → ((s : Shape) → Hits r p s → Contains xs s ↔ Contains ys s)
-        → label_of b r xs p ≡ label_of b r ys p }
+        → label_among b r xs p ≡ label_among b r ys p }
 {}
 
 /// How a label grows shape by shape.
 pub fn labels_take_shapes()
     ensures bare { (b : BoardParts) (r : PlaneRule) (p : Point)
-        → FitsBoard b r p → label_of b r [] p ≡ Label.Free }
+        → FitsBoard b r p → label_among b r [] p ≡ Label.Free }
     ensures frame { (b : BoardParts) (r : PlaneRule) (p : Point)
-        → ¬ FitsBoard b r p → label_of b r [] p ≡ Label.Many }
+        → ¬ FitsBoard b r p → label_among b r [] p ≡ Label.Many }
     ensures hit { (b : BoardParts) (r : PlaneRule) (shapes : List Shape) (s : Shape) (p : Point)
         → Hits r p s
-        → label_of b r (shapes ++ s ∷ []) p ≡ joined (label_of b r shapes p) s.owner }
+        → label_among b r (shapes ++ s ∷ []) p ≡ joined (label_among b r shapes p) s.owner }
     ensures missed { (b : BoardParts) (r : PlaneRule) (shapes : List Shape) (s : Shape) (p : Point)
-        → ¬ Hits r p s → label_of b r (shapes ++ s ∷ []) p ≡ label_of b r shapes p }
+        → ¬ Hits r p s → label_among b r (shapes ++ s ∷ []) p ≡ label_among b r shapes p }
 {}
 
 /// A node or a via's place is passable for a net exactly where it is left to the net.

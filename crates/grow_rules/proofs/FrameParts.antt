@@ -1,5 +1,5 @@
 -- The four rectangles of a frame.
-use Rattle.std.proofs.Common.{◌≡◌, ◌<◌, ℕ, ℤ, pos, ◌+ℤ◌, ◌≤ℤ◌, ◌<ℤ◌, List, [], ◌∷◌, length, All, Any, ◌⊎◌, inl, inr, refl, sym, subst, arith}
+use Rattle.std.proofs.Common.{◌≡◌, ℤ, pos, ◌+ℤ◌, ◌≤ℤ◌, ◌<ℤ◌, List, [], ◌∷◌, All, Any, ◌⊎◌, inl, inr, refl, sym, subst, arith}
 use Rattle.std.proofs.lemmas.Int.{ints, by_lt_z}
 use Rattle.std.proofs.lemmas.List.Elements.{All-nil, All-cons}
 use Rattle.geo_rect.specs.declared.shapes.Interval.{Interval}
@@ -9,7 +9,7 @@ use Rattle.geo_rect.specs.Axis.{HasNumber}
 use Rattle.geo_rect.specs.Plane.{HasPoint, rect_of, square}
 use Rattle.board_model.specs.declared.parts.BoardParts.{BoardParts}
 use Rattle.board_model.specs.Rules.{IsOnBoard}
-use Rattle.grow_rules.specs.Frames.{IsBoardPoint, IsInside, IsWhole, IsLowEnd, IsHighEnd}
+use Rattle.grow_rules.specs.Frames.{IsBoardPoint, IsWhole, IsLowEnd, IsHighEnd}
 
 -- the rectangle has exactly the points of the board of one sort, and their squares leave the board
 pub record IsPart (b : BoardParts) (half : ℤ) (sort : Point → Type 0) (r : Rect) : Type 0 where
@@ -40,41 +40,41 @@ module _ (b : BoardParts) (half : ℤ) where
     pub left_part : IsLowEnd w z i → IsWhole h j → IsPart b half IsLeft r
     left_part e u = record {
       point = λ p q. let a = e.inside p.x (there p q).across in let o = u.inside p.y (there p q).up in
-        record { across = record { from = a.from; to = omega (arith, ints) }; up = record { from = o.from; to = omega (arith, ints) } };
+          record { across = record { from = a.from; to = omega (arith, ints) }; up = record { from = o.from; to = omega (arith, ints) } };
       out = λ p q on. let a = e.low p.x (there p q).across in let left = on.left in omega (arith, ints);
       all = λ p q t. back p
-        (e.all p.x (record { from = q.across.from; to = omega (arith, ints) }) (omega (arith, ints)))
-        (u.all p.y (record { from = q.up.from; to = omega (arith, ints) }));
+          (e.all p.x (record { from = q.across.from; to = omega (arith, ints) }) (omega (arith, ints)))
+          (u.all p.y (record { from = q.up.from; to = omega (arith, ints) }));
     }
 
     pub right_part : IsHighEnd w z i → IsWhole h j → IsPart b half IsRight r
     right_part e u = record {
       point = λ p q. let a = e.inside p.x (there p q).across in let o = u.inside p.y (there p q).up in
-        record { across = record { from = a.from; to = omega (arith, ints) }; up = record { from = o.from; to = omega (arith, ints) } };
+          record { across = record { from = a.from; to = omega (arith, ints) }; up = record { from = o.from; to = omega (arith, ints) } };
       out = λ p q on. let a = e.high p.x (there p q).across in let right = on.right in omega (arith, ints);
       all = λ p q t. back p
-        (e.all p.x (record { from = q.across.from; to = omega (arith, ints) }) (omega (arith, ints)))
-        (u.all p.y (record { from = q.up.from; to = omega (arith, ints) }));
+          (e.all p.x (record { from = q.across.from; to = omega (arith, ints) }) (omega (arith, ints)))
+          (u.all p.y (record { from = q.up.from; to = omega (arith, ints) }));
     }
 
     pub lower_part : IsWhole w i → IsLowEnd h z j → IsPart b half IsBelow r
     lower_part u e = record {
       point = λ p q. let o = u.inside p.x (there p q).across in let a = e.inside p.y (there p q).up in
-        record { across = record { from = o.from; to = omega (arith, ints) }; up = record { from = a.from; to = omega (arith, ints) } };
+          record { across = record { from = o.from; to = omega (arith, ints) }; up = record { from = a.from; to = omega (arith, ints) } };
       out = λ p q on. let a = e.low p.y (there p q).up in let below = on.below in omega (arith, ints);
       all = λ p q t. back p
-        (u.all p.x (record { from = q.across.from; to = omega (arith, ints) }))
-        (e.all p.y (record { from = q.up.from; to = omega (arith, ints) }) (omega (arith, ints)));
+          (u.all p.x (record { from = q.across.from; to = omega (arith, ints) }))
+          (e.all p.y (record { from = q.up.from; to = omega (arith, ints) }) (omega (arith, ints)));
     }
 
     pub upper_part : IsWhole w i → IsHighEnd h z j → IsPart b half IsAbove r
     upper_part u e = record {
       point = λ p q. let o = u.inside p.x (there p q).across in let a = e.inside p.y (there p q).up in
-        record { across = record { from = o.from; to = omega (arith, ints) }; up = record { from = a.from; to = omega (arith, ints) } };
+          record { across = record { from = o.from; to = omega (arith, ints) }; up = record { from = a.from; to = omega (arith, ints) } };
       out = λ p q on. let a = e.high p.y (there p q).up in let above = on.above in omega (arith, ints);
       all = λ p q t. back p
-        (u.all p.x (record { from = q.across.from; to = omega (arith, ints) }))
-        (e.all p.y (record { from = q.up.from; to = omega (arith, ints) }) (omega (arith, ints)));
+          (u.all p.x (record { from = q.across.from; to = omega (arith, ints) }))
+          (e.all p.y (record { from = q.up.from; to = omega (arith, ints) }) (omega (arith, ints)));
     }
 
   part_on_board : (sort : Point → Type 0) (r : Rect) → IsPart b half sort r → IsOnBoard b.width b.height r

@@ -4,7 +4,6 @@
 
 mod ends;
 mod frames;
-mod gaps;
 mod grows;
 
 pub use frames::frame;
