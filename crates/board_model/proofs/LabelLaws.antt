@@ -1,8 +1,8 @@
 -- What each label says, that the labels of a list depend on its members alone, and how they grow.
 use Rattle.std.proofs.Common.{◌≡◌, ◌≢◌, ◌++◌, ℕ, List, [], ◌∷◌, Option, Some, None, true, false, eqb, fold, inl, inr, ◌↔◌, refl, sym, ◌∙◌, ap, subst, append_assoc, append-nil, arith}
-use Rattle.std.specs.Prelude.{Contains, ◌==◌}
+use Rattle.std.specs.Prelude.{Contains, ◌==◌, Bool, filter}
 use Rattle.std.proofs.lemmas.Bool.{both_ways, cond_both, cond-true, cond-false, eqb-true, eqb-false, false_from_ne_true}
-use Rattle.std.proofs.lemmas.List.Elements.{Contains-append_left, Contains-push, Contains-push_cases}
+use Rattle.std.proofs.lemmas.List.Elements.{Contains-append_left, Contains-append_right, Contains-push, Contains-push_cases}
 use Rattle.std.proofs.lemmas.List.Sums.{fold_push}
 use Rattle.std.proofs.lemmas.Option.{same_Some, none-some}
 use Rattle.geo_rect.specs.declared.ids.Label.{Label}
@@ -172,6 +172,9 @@ module _ (b : BoardParts) (r : PlaneRule) (p : Point) where
   unfolding label_among
   says_label shapes = says_all shapes [] (bare_label b r p) says_bare
 
+  with_missed : (s : Shape) (a : Label) → ¬ Hits r p s → with_shape r p a s ≡ a
+  with_missed s a miss = cond-false (does_hit r p s) _ _ (false_from_ne_true _ (λ e. miss ((Decides-does_hit r p s).0 e)))
+
   -- the laws
   pub says_what : (shapes : List Shape) (a : Label) → (label_among b r shapes p ≡ a) ↔ Says b r shapes p a
   says_what shapes a = (
@@ -200,7 +203,20 @@ module _ (b : BoardParts) (r : PlaneRule) (p : Point) where
 
   pub label_among-push_missed : (shapes : List Shape) (s : Shape) → ¬ Hits r p s → label_among b r (shapes ++ s ∷ []) p ≡ label_among b r shapes p
   label_among-push_missed shapes s miss =
-      label_among-push shapes s ∙ cond-false (does_hit r p s) _ _ (false_from_ne_true _ (λ e. miss ((Decides-does_hit r p s).0 e)))
+      label_among-push shapes s ∙ with_missed s (label_among b r shapes p) miss
+
+  -- shapes that miss p may leave the list
+  fold_kept : (keep : Shape → Bool) (shapes : List Shape) (a : Label) → ((s : Shape) → Contains shapes s → keep s ≡ false → ¬ Hits r p s) → fold (with_shape r p) a (filter keep shapes) ≡ fold (with_shape r p) a shapes
+  fold_kept keep [] a miss = refl
+  fold_kept keep (s ∷ rest) a miss =
+      let later : (x : Shape) → Contains rest x → keep x ≡ false → ¬ Hits r p x = λ x c e. miss x (Contains-append_right (s ∷ []) rest x c) e in
+      cond_both (keep s) (s ∷ filter keep rest) (filter keep rest) (λ (l : List Shape). fold (with_shape r p) a l ≡ fold (with_shape r p) (with_shape r p a s) rest)
+      (λ e. fold_kept keep rest (with_shape r p a s) later)
+      (λ e. fold_kept keep rest a later ∙ ap (λ (z : Label). fold (with_shape r p) z rest) (sym (with_missed s a (miss s (0, omega arith, refl) e))))
+
+  pub label_among-filter : (keep : Shape → Bool) (shapes : List Shape) → ((s : Shape) → Contains shapes s → keep s ≡ false → ¬ Hits r p s) → label_among b r (filter keep shapes) p ≡ label_among b r shapes p
+  unfolding label_among
+  label_among-filter keep shapes miss = fold_kept keep shapes (bare_label b r p) miss
 
   left_from : (shapes : List Shape) (n : NetId) (a : Label) → Says b r shapes p a → Admits a n → IsLeftTo b r shapes p n
   left_from shapes n Free h t = record { fits = h.fits; own = λ s c k. absurd (h.clear s c k) }

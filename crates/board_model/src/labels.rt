@@ -1,7 +1,7 @@
 //! Laws of the labels. Each function does nothing: its contract is the law. Proofs cite the lemmas
 //! of `proofs/LabelLaws.antt`.
 
-ghost use Rattle.std.specs.Prelude.{◌≡◌, ◌↔◌, List, [], ◌∷◌, ◌++◌, Contains};
+ghost use Rattle.std.specs.Prelude.{◌≡◌, ◌↔◌, Bool, false, List, [], ◌∷◌, ◌++◌, filter, Contains};
 ghost use Rattle.geo_rect.specs.declared.ids.ClassId.{ClassId};
 ghost use Rattle.geo_rect.specs.declared.ids.KindId.{KindId};
 ghost use Rattle.geo_rect.specs.declared.ids.LayerId.{LayerId};
@@ -63,6 +63,14 @@ pub fn labels_take_shapes()
         → label_among b r (shapes ++ s ∷ []) p ≡ joined (label_among b r shapes p) s.owner }
     ensures missed { (b : BoardParts) (r : PlaneRule) (shapes : List Shape) (s : Shape) (p : Point)
         → ¬ Hits r p s → label_among b r (shapes ++ s ∷ []) p ≡ label_among b r shapes p }
+{}
+
+/// Shapes that leave a list change no label at the points that they miss.
+pub fn labels_forget_shapes()
+    ensures { (b : BoardParts) (r : PlaneRule) (keep : Shape → Bool) (shapes : List Shape)
+        → (p : Point)
+        → ((s : Shape) → Contains shapes s → keep s ≡ false → ¬ Hits r p s)
+        → label_among b r (filter keep shapes) p ≡ label_among b r shapes p }
 {}
 
 /// A node or a via's place is passable for a net exactly where it is left to the net.

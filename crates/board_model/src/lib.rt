@@ -17,7 +17,7 @@ mod states;
 pub use boards::Board;
 pub use commands::Command;
 pub use labels::{
-    hits_are_squares_too_close, labels_ignore_order, labels_say_what_hits, labels_take_shapes,
+    hits_are_squares_too_close, labels_forget_shapes, labels_ignore_order, labels_say_what_hits, labels_take_shapes,
     passable_is_left_to_the_net,
 };
 pub use limits::{
