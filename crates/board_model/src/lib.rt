@@ -9,10 +9,14 @@ mod gaps;
 mod labels;
 mod limits;
 mod made;
+mod names;
+mod net_pins;
 mod outlines;
 mod parts;
+mod rules;
 mod shapes;
 mod states;
+mod validity;
 
 pub use boards::Board;
 pub use commands::Command;
@@ -25,7 +29,6 @@ pub use limits::{
     MAX_NAME, MAX_NETS, MAX_PINS, MAX_SIDE,
 };
 pub use made::{Conn, Leg, Made};
-pub use outlines::is_on_board;
 pub use parts::{Block, BoardParts, Pin, Rule, ViaKind};
 pub use shapes::{Owned, Shape, Violation};
 pub use states::all_shapes;
