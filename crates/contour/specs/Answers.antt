@@ -13,15 +13,6 @@ use Rattle.contour.specs.Replies.{rules_text}
 abbrev pub nothing_made : BoardParts → List (List Conn)
 nothing_made b = replicate (length b.net_names) []
 
--- the commands that have a reply today
-abbrev pub IsBuilt : Command → Type 0
-IsBuilt (Route n) = ⊥
-IsBuilt All = ⊥
-IsBuilt (Rip n) = ⊥
-IsBuilt (Show n) = ⊥
-IsBuilt Rules = Unit {0}
-IsBuilt (Strips l c) = ⊥
-
 -- the bytes are the reply to a command on a board with nothing made
 abbrev pub IsReply : BoardParts → Command → List ℕ → Type 0
 IsReply b (Route n) bytes = ⊥

@@ -8,7 +8,7 @@ use Rattle.board_model.specs.declared.commands.Command.{Command}
 use Rattle.board_reader.specs.declared.refusals.Refusal.{Refusal}
 use Rattle.board_reader.specs.declared.refusals.ReadInput.{ReadInput}
 use Rattle.board_reader.specs.declared.refusals.ReadInput.TheVariants as input
-use Rattle.board_reader.specs.Kinds.{number_of}
+use Rattle.board_reader.specs.Kinds.{number_of_kind}
 use Rattle.contour.specs.declared.endings.Ending.{Ending}
 use Rattle.contour.specs.declared.endings.Ending.TheVariants.{BadWords, TooLong, Refused, ReadFault, WriteFault, NoMemory}
 use Rattle.contour.specs.declared.endings.Status.{Status}
@@ -37,7 +37,7 @@ ending_of_input input.NoMemory = NoMemory
 abbrev pub line_of : Ending → List ℕ
 line_of BadWords = codes "usage: contour run [--quiet] / check / gen N / demo N\n"
 line_of TooLong = codes "too long\n"
-line_of (Refused r) = codes "line " ++ decimal r.line ++ codes " kind " ++ decimal (number_of r.kind) ++ codes "\n"
+line_of (Refused r) = codes "line " ++ decimal r.line ++ codes " kind " ++ decimal (number_of_kind r.kind) ++ codes "\n"
 line_of ReadFault = codes "read fault\n"
 line_of WriteFault = codes "write fault\n"
 line_of NoMemory = codes "no memory\n"

@@ -8,6 +8,11 @@ abbrev pub IfTold : Option (List ℕ) → (List ℕ → Type 0) → Type 0
 IfTold None P = Unit {0}
 IfTold (Some bytes) P = P bytes
 
+-- a source tells its bytes, and P holds of them
+abbrev pub IsToldAnd : Option (List ℕ) → (List ℕ → Type 0) → Type 0
+IsToldAnd None P = ⊥
+IsToldAnd (Some bytes) P = P bytes
+
 -- more bytes than the program reads
 abbrev pub IsTooLong : List ℕ → Type 0
 IsTooLong bytes = 268435456 < length bytes

@@ -1,5 +1,5 @@
 -- The text of a reply: lines that end with one line feed, words with one space between them.
-use Rattle.std.specs.Prelude.{ℕ, ◌∷◌, [], ◌++◌, List, length, Option, Some, None, codes, decimal, slice_index_or, ◌<◌, MatchOption}
+use Rattle.std.specs.Prelude.{ℕ, ◌∷◌, [], ◌++◌, List, length, Option, Some, None, codes, decimal, slice_index_or}
 use Rattle.std.specs.List.{flat_map}
 use Rattle.std.specs.Fmt.{signed_decimal}
 use Rattle.geo_rect.specs.declared.ids.LayerId.{LayerId}
@@ -34,13 +34,3 @@ violation_text b (Outline l o) =
 -- the reply to `rules`: how many violations there are, and a line for each
 abbrev pub rules_text : BoardParts → List Violation → List ℕ
 rules_text b found = codes "rules " ++ decimal (length found) ++ codes "\n" ++ flat_map (violation_text b) found
-
--- a blockage, or a net of the board
-abbrev pub IsKnownOwner : BoardParts → Option NetId → Type 0
-IsKnownOwner b None = Unit {0}
-IsKnownOwner b (Some n) = n.0 < length b.net_names
-
--- what a violation names is in the board
-abbrev pub IsKnown : BoardParts → Violation → Type 0
-IsKnown b (Close l o q) = (l.0 < length b.layers) × IsKnownOwner b o.owner × IsKnownOwner b q.owner
-IsKnown b (Outline l o) = (l.0 < length b.layers) × IsKnownOwner b o.owner

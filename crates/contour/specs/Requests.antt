@@ -10,3 +10,7 @@ words_of Run = codes "run" ∷ []
 -- the words are those of no request
 abbrev pub IsNoRequest : List (List ℕ) → Type 0
 IsNoRequest words = (r : Request) → words_of r ≡ words → ⊥
+
+-- the words are those of a request
+abbrev pub IsRequest : List (List ℕ) → Type 0
+IsRequest words = (r : Request) × (words_of r ≡ words)

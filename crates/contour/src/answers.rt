@@ -1,5 +1,6 @@
-ghost use Rattle.std.specs.Prelude.{◌≡◌, All, OnOk, IfErr};
-ghost use Rattle.contour.specs.Answers.{nothing_made, IsBuilt, AnswersOne, AnswersAll};
+ghost use Rattle.std.specs.Prelude.{◌≡◌, ◌≤◌, All, OnOk, IfErr};
+ghost use Rattle.board_reader.specs.Built.{HasForm};
+ghost use Rattle.contour.specs.Answers.{nothing_made, AnswersOne, AnswersAll};
 ghost use Rattle.contour.specs.Endings.{EndsAnswer, EndsAnswers};
 
 use board_model::{Board, Command, Made};
@@ -19,10 +20,11 @@ fn answer<K: Sink>(
     out: &mut K,
 ) -> Result<(), Ending>
     requires nothing { made.now.lists ≡ nothing_made board.now.parts }
-    requires built { IsBuilt command }
+    requires built { HasForm command }
     ensures ok { OnOk result (AnswersOne board.now.parts command (K.written out.old) (K.written out.new)) }
     ensures err { IfErr result (EndsAnswer board.now.parts command (K.written out.old) (K.written out.new) (K.faults out.old) (K.faults out.new)) }
     ensures never_falls { K.faults out.old ≤ K.faults out.new }
+    ensures setup { K.setup out.new ≡ K.setup out.old }
 {
     match command {
         Command::Rules => {
@@ -42,10 +44,11 @@ pub fn answer_all<K: Sink>(
     commands: &[Command],
     out: &mut K,
 ) -> Result<(), Ending>
-    requires { All IsBuilt commands.now }
+    requires { All HasForm commands.now }
     ensures ok { OnOk result (AnswersAll board.now.parts commands.now (K.written out.old) (K.written out.new)) }
     ensures err { IfErr result (EndsAnswers board.now.parts commands.now (K.written out.old) (K.written out.new) (K.faults out.old) (K.faults out.new)) }
     ensures never_falls { K.faults out.old ≤ K.faults out.new }
+    ensures setup { K.setup out.new ≡ K.setup out.old }
 {
     let made = Made::none(alloc, board)?;
     for command in commands {

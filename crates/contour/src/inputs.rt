@@ -1,6 +1,7 @@
 ghost use Rattle.std.specs.Prelude.{◌≡◌, [], ◌≤◌, All, OnOk, IfOk, IfErr};
 ghost use Rattle.io_edge.specs.Streams.{IsToldAs};
-ghost use Rattle.contour.specs.Answers.{IsBuilt};
+ghost use Rattle.board_reader.specs.Built.{HasForm};
+ghost use Rattle.board_reader.specs.Contract.{told_by};
 ghost use Rattle.contour.specs.Endings.{EndsReading};
 ghost use Rattle.contour.specs.Inputs.{IfTold, IsAcceptedAs};
 
@@ -15,11 +16,12 @@ pub const MAX_INPUT: usize = 268_435_456;
 
 /// Reads the source to its end, and its bytes as a board text.
 pub fn read_text<S: Source>(alloc: Global, source: &mut S) -> Result<Input, Ending>
-    ensures ok { IfOk result (λ input. IfTold (S.left source.old) (IsAcceptedAs (record { parts = input.board.parts; commands = input.commands }))) }
+    ensures ok { IfOk result (λ input. IfTold (S.left source.old) (IsAcceptedAs (told_by input))) }
     ensures end { OnOk result (IsToldAs (S.left source.new) []) }
-    ensures built { IfOk result (λ input. All IsBuilt input.commands) }
+    ensures built { IfOk result (λ input. All HasForm input.commands) }
     ensures err { IfErr result (EndsReading (S.left source.old) (S.faults source.old) (S.faults source.new)) }
     ensures never_falls { S.faults source.old ≤ S.faults source.new }
+    ensures setup { S.setup source.new ≡ S.setup source.old }
 {
     let bytes = read_all(alloc, source, MAX_INPUT)?;
     Ok(read_input(alloc, bytes.as_slice())?)

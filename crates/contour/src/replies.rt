@@ -1,5 +1,7 @@
 ghost use Rattle.std.specs.Prelude.{◌≡◌, ◌++◌, [], ◌∷◌, OnOk, IfOk, All, ◌<◌, length};
-ghost use Rattle.contour.specs.Replies.{area_text, owner_text, owned_text, violation_text, rules_text, IsKnown, IsKnownOwner};
+ghost use Rattle.board_model.specs.Known.{IsOwner};
+ghost use Rattle.rule_check.specs.Known.{NamesKnown};
+ghost use Rattle.contour.specs.Replies.{area_text, owner_text, owned_text, violation_text, rules_text};
 
 use board_model::{Board, Owned, Violation};
 use geo_rect::{LayerId, NetId, NoMemory, Rect};
@@ -21,7 +23,7 @@ fn push_area(text: &mut Vec<u8>, area: Rect) -> Result<(), NoMemory>
 }
 
 fn push_owner(text: &mut Vec<u8>, board: &Board, owner: Option<NetId>) -> Result<(), NoMemory>
-    requires { IsKnownOwner board.now.parts owner }
+    requires { IsOwner board.now.parts owner }
     ensures { OnOk result (text.new.items ≡ text.old.items ++ owner_text board.now.parts owner) }
 {
     match owner {
@@ -34,7 +36,7 @@ fn push_owner(text: &mut Vec<u8>, board: &Board, owner: Option<NetId>) -> Result
 }
 
 fn push_owned(text: &mut Vec<u8>, board: &Board, shape: &Owned) -> Result<(), NoMemory>
-    requires { IsKnownOwner board.now.parts shape.now.owner }
+    requires { IsOwner board.now.parts shape.now.owner }
     ensures { OnOk result (text.new.items ≡ text.old.items ++ owned_text board.now.parts shape.now) }
 {
     push_owner(text, board, shape.owner)?;
@@ -48,7 +50,7 @@ fn push_close(
     first: &Owned,
     second: &Owned,
 ) -> Result<(), NoMemory>
-    requires { IsKnown board.now.parts (Violation.Close layer first.now second.now) }
+    requires { NamesKnown board.now.parts (Violation.Close layer first.now second.now) }
     ensures { OnOk result (text.new.items ≡ text.old.items ++ violation_text board.now.parts (Violation.Close layer first.now second.now)) }
 {
     push_bytes(text, b"close ")?;
@@ -61,7 +63,7 @@ fn push_close(
 }
 
 fn push_outline(text: &mut Vec<u8>, board: &Board, layer: LayerId, shape: &Owned) -> Result<(), NoMemory>
-    requires { IsKnown board.now.parts (Violation.Outline layer shape.now) }
+    requires { NamesKnown board.now.parts (Violation.Outline layer shape.now) }
     ensures { OnOk result (text.new.items ≡ text.old.items ++ violation_text board.now.parts (Violation.Outline layer shape.now)) }
 {
     push_bytes(text, b"outline ")?;
@@ -72,7 +74,7 @@ fn push_outline(text: &mut Vec<u8>, board: &Board, layer: LayerId, shape: &Owned
 }
 
 fn push_violation(text: &mut Vec<u8>, board: &Board, violation: &Violation) -> Result<(), NoMemory>
-    requires { IsKnown board.now.parts violation.now }
+    requires { NamesKnown board.now.parts violation.now }
     ensures { OnOk result (text.new.items ≡ text.old.items ++ violation_text board.now.parts violation.now) }
 {
     match violation {
@@ -83,7 +85,7 @@ fn push_violation(text: &mut Vec<u8>, board: &Board, violation: &Violation) -> R
 
 /// The reply to `rules`.
 pub fn print_rules(alloc: Global, board: &Board, found: &[Violation]) -> Result<Vec<u8>, NoMemory>
-    requires { All (IsKnown board.now.parts) found.now }
+    requires { All (NamesKnown board.now.parts) found.now }
     ensures { IfOk result (λ text. text.items ≡ rules_text board.now.parts found.now) }
 {
     let mut text = Vec::from_slice(alloc, b"rules ")?;

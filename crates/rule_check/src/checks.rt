@@ -4,6 +4,7 @@ ghost use Rattle.std.specs.Prelude.{◌≡◌, ◌++◌, [], length, All, IfOk, 
 ghost use Rattle.board_model.specs.Known.{IsKnown};
 ghost use Rattle.board_model.specs.Shapes.{state_shapes};
 ghost use Rattle.board_model.specs.Violations.{violations_of};
+ghost use Rattle.rule_check.specs.Known.{NamesKnown};
 
 use crate::outlines::push_outline;
 use crate::pairs::push_close;
@@ -16,8 +17,9 @@ use std::alloc::Global;
 pub fn violations(alloc: Global, board: &Board, made: &Made) -> Result<List<Violation>, NoMemory>
     requires nets { length made.now.lists ≡ length board.now.parts.net_names }
     requires none_made { All (λ conns. conns ≡ []) made.now.lists }
-    ensures { IfOk result (λ found.
+    ensures exact { IfOk result (λ found.
         found ≡ violations_of board.now.parts (state_shapes board.now.parts made.now.lists)) }
+    ensures known { IfOk result (λ found. All (NamesKnown board.now.parts) found) }
 {
     let shapes = all_shapes(alloc, board, made)?;
     let mut found = List::new(alloc);

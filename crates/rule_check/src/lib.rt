@@ -2,7 +2,6 @@
 #![tactic(auto)]
 
 mod checks;
-mod near;
 mod outlines;
 mod pairs;
 

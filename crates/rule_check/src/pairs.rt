@@ -5,9 +5,8 @@ ghost use Rattle.board_model.specs.Known.{IsKnown};
 ghost use Rattle.board_model.specs.Spacing.{is_same_owner, breaks_gap};
 ghost use Rattle.board_model.specs.Violations.{close_of};
 
-use crate::near::too_close;
 use board_model::{Board, Owned, Shape, Violation};
-use geo_rect::{List, NetId, NoMemory};
+use geo_rect::{List, NetId, NoMemory, too_close};
 
 /// Whether both are blockages, or both belong to one net.
 fn same_owner(a: Option<NetId>, b: Option<NetId>) -> bool
