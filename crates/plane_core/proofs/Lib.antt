@@ -1,0 +1,7 @@
+pub mod Alike
+pub mod Listed
+pub mod Local
+pub mod Members
+pub mod Ordered
+pub mod Runs
+pub mod Turns
