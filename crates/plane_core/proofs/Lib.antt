@@ -1,7 +1,9 @@
 pub mod Alike
+pub mod Labelled
 pub mod Listed
 pub mod Local
 pub mod Members
 pub mod Ordered
 pub mod Runs
+pub mod Sharing
 pub mod Turns

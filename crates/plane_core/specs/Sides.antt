@@ -31,6 +31,12 @@ turned Below r = rect_of (rows r) (columns r)
 turned Right r = rect_of (mirrored (columns r)) (mirrored (rows r))
 turned Above r = rect_of (mirrored (rows r)) (mirrored (columns r))
 
+-- some number is in both
+pub record HaveCommon (i j : Interval) : Type 0 where
+  pub number : ℤ
+  pub in_first : HasNumber i number
+  pub in_second : HasNumber j number
+
 -- s has a point one step to the left of a row of t
 pub record IsLeftOf (s t : Rect) : Type 0 where
   pub at : Point

@@ -6,6 +6,7 @@ ghost use Rattle.geo_rect.specs.declared.shapes.Rect.{Rect};
 ghost use Rattle.geo_rect.specs.Plane.{HasPoint};
 ghost use Rattle.plane_core.specs.declared.strips.Strip.{Strip};
 ghost use Rattle.plane_core.specs.declared.sides.Side.{Side};
+ghost use Rattle.plane_core.specs.Labels.{label_of, IsPlane};
 ghost use Rattle.plane_core.specs.LocalForm.{HasLocalForm};
 ghost use Rattle.plane_core.specs.Strips.{AreStrips, IsStrip};
 ghost use Rattle.plane_core.specs.Sides.{turned, turned_point};
@@ -31,6 +32,13 @@ pub fn local_form_is_enough()
 /// The strips of a labelled domain fill it with its labels, pairwise apart and with no defect.
 pub fn strips_have_local_form()
     ensures { (domain : Rect) (label_at : Point → Label) (ss : List Strip) → AreStrips domain label_at ss → HasLocalForm domain label_at ss }
+{
+}
+
+/// The strips of a labelled domain give its points their labels, so they are a plane.
+pub fn strips_give_labels()
+    ensures labels { (domain : Rect) (label_at : Point → Label) (ss : List Strip) (p : Point) → AreStrips domain label_at ss → HasPoint domain p → label_of ss p ≡ label_at p }
+    ensures canonical { (domain : Rect) (label_at : Point → Label) (ss : List Strip) → AreStrips domain label_at ss → IsPlane domain ss }
 {
 }
 
