@@ -1,13 +1,9 @@
-// A library with one function.
+//! A plane that keeps its strips as one sorted list: plain, and the measure of faster ones.
 #![tactic(auto)]
 
-ghost use Rattle.std.specs.Prelude.{◌≡◌};
-ghost use Rattle.flat_plane.specs.Echo.{echo_of};
+pub mod checks;
 
-// The `ensures` clause is the contract: what `echo` returns is `echo_of` of its argument, a definition
-// in `specs/Echo.antt`, which a caller's clause can cite too.
-pub fn echo(x: usize) -> usize
-    ensures { result ≡ echo_of x }
-{
-    x
-}
+
+
+
+pub mod drafts;

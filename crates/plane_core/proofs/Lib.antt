@@ -1,4 +1,5 @@
 pub mod Alike
+pub mod Choices
 pub mod Labelled
 pub mod Listed
 pub mod Local
