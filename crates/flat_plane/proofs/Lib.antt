@@ -1,2 +1,4 @@
+pub mod Adding
+pub mod Decided
 pub mod Joining
 pub mod Parts
