@@ -1,5 +1,5 @@
 use Rattle.std.proofs.Common.{rules, arith}
-use Rattle.flat_plane.proofs.Parts.{point_from_parts}
+use Rattle.flat_plane.proofs.FromParts.{point_from_parts}
 use Rattle.flat_plane.proofs.checks.has_point.Goals as goal
 
 pub returns : goal.returns
