@@ -1,5 +1,7 @@
 pub mod Adding
+pub mod BandFacts
 pub mod Decided
+pub mod Edges
 pub mod FromParts
 pub mod Joining
 pub mod PaintedRows

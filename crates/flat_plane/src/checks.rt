@@ -102,7 +102,7 @@ fn touch(i: Interval, j: Interval) -> bool
     true
 }
 
-fn are_same_label(a: Label, b: Label) -> bool
+pub fn are_same_label(a: Label, b: Label) -> bool
     ensures { IsTrue result ↔ (a ≡ b) }
 {
     a == b
