@@ -1,8 +1,12 @@
 pub mod Adding
 pub mod BandFacts
+pub mod BandRows
 pub mod Decided
 pub mod Edges
+pub mod Finish
 pub mod FromParts
 pub mod Joining
 pub mod PaintedRows
+pub mod PieceRuns
+pub mod RowsLeft
 pub mod StartDraft

@@ -7,3 +7,4 @@ pub mod checks;
 pub mod drafts;
 pub mod outside;
 pub mod parts;
+pub mod pieces;
