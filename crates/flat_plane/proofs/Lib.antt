@@ -6,6 +6,7 @@ pub mod Edges
 pub mod Finish
 pub mod FromParts
 pub mod Joining
+pub mod KeptFacts
 pub mod PaintedRows
 pub mod PieceRuns
 pub mod RowsLeft

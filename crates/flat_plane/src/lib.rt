@@ -1,10 +1,14 @@
 //! A plane that keeps its strips as one sorted list: plain, and the measure of faster ones.
 #![tactic(auto)]
 
-pub mod bands;
-pub mod brushes;
-pub mod checks;
-pub mod drafts;
-pub mod outside;
-pub mod parts;
-pub mod pieces;
+mod bands;
+mod brushes;
+mod checks;
+mod drafts;
+mod outside;
+mod parts;
+mod pieces;
+mod planes;
+mod queries;
+
+pub use planes::FlatPlane;
