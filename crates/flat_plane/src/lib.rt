@@ -12,3 +12,6 @@ mod planes;
 mod queries;
 
 pub use planes::FlatPlane;
+
+#[cfg(test)]
+mod tests;
