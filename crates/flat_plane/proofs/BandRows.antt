@@ -1,9 +1,8 @@
 -- With the pieces of a band all points of its rows are held.
-use Rattle.std.proofs.Common.{ℤ, pos, ◌-ℤ◌, ◌+ℤ◌, ◌≤ℤ◌, ◌<ℤ◌, ◌≡◌, refl, sym, subst, ◌∙◌, ◌⊎◌, inl, inr, List, Contains, Option, Some, None, arith}
+use Rattle.std.proofs.Common.{ℤ, pos, ◌-ℤ◌, ◌+ℤ◌, ◌≤ℤ◌, ◌<ℤ◌, ◌≡◌, subst, inl, inr, List, Contains, Option, Some, None, arith}
 use Rattle.std.proofs.lemmas.Int.{ints, by_lt_z}
 use Rattle.geo_rect.specs.declared.shapes.Interval.{Interval}
 use Rattle.geo_rect.specs.declared.shapes.Point.{Point}
-use Rattle.geo_rect.specs.declared.shapes.Rect.{Rect}
 use Rattle.geo_rect.specs.Axis.{HasNumber, LiesWithin}
 use Rattle.geo_rect.specs.Plane.{columns, rows, HasPoint}
 use Rattle.plane_core.specs.declared.strips.Strip.{Strip}
@@ -29,8 +28,8 @@ left_reach brush None low strips band at end = omega (arith, ints)
 left_reach brush (Some s) low strips band at end =
     let a = at.column.from in
     elim (label_decided s.label brush.label) [
-      inl e ↦ (let k = end.0 e in omega (arith, ints))
-    | inr n ↦ (let k = end.1 n in omega (arith, ints))
+      | inl e ↦ (let k = end.0 e in omega (arith, ints))
+      | inr n ↦ (let k = end.1 n in omega (arith, ints))
     ]
 
 right_reach : (brush : Brush) (o : Option Strip) (high : ℤ) (strips : List Strip) (band : Interval) → IsBeyond strips brush.domain (brush.area.x1 +ℤ pos 1) band o → IsRightEnd brush.area.x1 brush.label o high → brush.area.x1 ≤ℤ high
@@ -38,8 +37,8 @@ right_reach brush None high strips band at end = omega (arith, ints)
 right_reach brush (Some s) high strips band at end =
     let a = at.column.to in
     elim (label_decided s.label brush.label) [
-      inl e ↦ (let k = end.0 e in omega (arith, ints))
-    | inr n ↦ (let k = end.1 n in omega (arith, ints))
+      | inl e ↦ (let k = end.0 e in omega (arith, ints))
+      | inr n ↦ (let k = end.1 n in omega (arith, ints))
     ]
 
 -- a strip with a point in the band that reaches the column beside the area is the one found there
@@ -59,9 +58,9 @@ left_point strips brush band new (Some t) s p can at end hold middle reach hs hp
     let P : Strip → Type 0 = λ u. HasPoint u.area p in
     let tp : HasPoint t.area p = subst P e hp in
     elim (label_decided t.label brush.label) [
-      inl l ↦ (let k = end.0 l in let a = tp.across.from in let o = brush.area.x_ordered in
-        middle p (record { from = omega (arith, ints); to = omega (arith, ints) }) hy)
-    | inr n ↦ hold n p tp less hy
+      | inl l ↦ (let k = end.0 l in let a = tp.across.from in let o = brush.area.x_ordered in
+          middle p (record { from = omega (arith, ints); to = omega (arith, ints) }) hy)
+      | inr n ↦ hold n p tp less hy
     ]
 
 right_point : (strips : List Strip) (brush : Brush) (band : Band) (new : List Strip) (o : Option Strip) (s : Strip) (p : Point) → CanPaint strips brush → IsBeyond strips brush.domain (brush.area.x1 +ℤ pos 1) band.rows o → IsRightEnd brush.area.x1 brush.label o band.across.high → HoldsRight brush band.rows o new → HoldsMiddle band new → band.across.low ≤ℤ brush.area.x0 → Contains strips s → HasPoint s.area p → HasNumber (columns s.area) (brush.area.x1 +ℤ pos 1) → brush.area.x1 <ℤ p.x → HasNumber band.rows p.y → IsHeld new p
@@ -74,9 +73,9 @@ right_point strips brush band new (Some t) s p can at end hold middle reach hs h
     let P : Strip → Type 0 = λ u. HasPoint u.area p in
     let tp : HasPoint t.area p = subst P e hp in
     elim (label_decided t.label brush.label) [
-      inl l ↦ (let k = end.0 l in let a = tp.across.to in let o = brush.area.x_ordered in
-        middle p (record { from = omega (arith, ints); to = omega (arith, ints) }) hy)
-    | inr n ↦ hold n p tp more hy
+      | inl l ↦ (let k = end.0 l in let a = tp.across.to in let o = brush.area.x_ordered in
+          middle p (record { from = omega (arith, ints); to = omega (arith, ints) }) hy)
+      | inr n ↦ hold n p tp more hy
     ]
 
 affected_point : (strips : List Strip) (brush : Brush) (band : Band) (new : List Strip) (s : Strip) (p : Point) → CanPaint strips brush → IsBand strips brush band → HoldsBand strips brush band new → Contains strips s → IsAffected brush.area s.area → HasPoint s.area p → HasNumber band.rows p.y → IsHeld new p
@@ -87,18 +86,18 @@ affected_point strips brush band new s p can is holds hs a hp hy =
     let high : brush.area.x1 ≤ℤ band.across.high = right_reach brush band.right band.across.high strips band.rows is.right is.right_end in
     by_lt_z p.x brush.area.x0
     (λ less. left_point strips brush band new band.left s p can is.left is.left_end holds.left holds.middle high hs hp
-      (record { from = omega (arith, ints); to = omega (arith, ints) }) less hy)
+    (record { from = omega (arith, ints); to = omega (arith, ints) }) less hy)
     (λ from. by_lt_z brush.area.x1 p.x
-      (λ more. right_point strips brush band new band.right s p can is.right is.right_end holds.right holds.middle low hs hp
-        (record { from = omega (arith, ints); to = omega (arith, ints) }) more hy)
-      (λ to. holds.middle p (record { from = omega (arith, ints); to = omega (arith, ints) }) hy))
+    (λ more. right_point strips brush band new band.right s p can is.right is.right_end holds.right holds.middle low hs hp
+    (record { from = omega (arith, ints); to = omega (arith, ints) }) more hy)
+    (λ to. holds.middle p (record { from = omega (arith, ints); to = omega (arith, ints) }) hy))
 
 pub band_rows : (strips : List Strip) (brush : Brush) (band : Band) (new : List Strip) → CanPaint strips brush → IsBand strips brush band → HoldsBand strips brush band new → HoldsRows brush.domain band.rows new
 band_rows strips brush band new can is holds p inside hy =
     let h : IsHeld strips p = can.plane.covered p inside in
     elim (affected_decided brush.area h.by.area) [
-      inl a ↦ affected_point strips brush band new h.by p can is holds h.is_listed a h.has_point hy
-    | inr n ↦ holds.untouched h.by h.is_listed n p h.has_point
+      | inl a ↦ affected_point strips brush band new h.by p can is holds h.is_listed a h.has_point hy
+      | inr n ↦ holds.untouched h.by h.is_listed n p h.has_point
     ]
 
 -- what is held to the left stays held

@@ -1,5 +1,5 @@
 -- One row: the runs after the numbers of an interval have got a label.
-use Rattle.std.proofs.Common.{ℤ, pos, ◌-ℤ◌, ◌+ℤ◌, ◌≤ℤ◌, ◌<ℤ◌, ◌≡◌, ◌≢◌, sym, subst, ◌∙◌, ◌⊎◌, inl, inr, arith}
+use Rattle.std.proofs.Common.{ℤ, pos, ◌-ℤ◌, ◌+ℤ◌, ◌≤ℤ◌, ◌<ℤ◌, ◌≡◌, ◌≢◌, sym, subst, ◌∙◌, arith}
 use Rattle.std.proofs.lemmas.Int.{ints, by_lt_z}
 use Rattle.geo_rect.specs.declared.ids.Label.{Label}
 use Rattle.geo_rect.specs.declared.shapes.Interval.{Interval}
@@ -24,17 +24,17 @@ left_part d area s e m l f g p r h n low high =
     record {
       inside = record { from = omega (arith, ints); to = omega (arith, ints) };
       same = λ x hx.
-        let a = hx.from in let b = hx.to in
-        p.elsewhere x (before_area area x (omega (arith, ints))) ∙ r.same x (record { from = omega (arith, ints); to = omega (arith, ints) });
+          let a = hx.from in let b = hx.to in
+          p.elsewhere x (before_area area x (omega (arith, ints))) ∙ r.same x (record { from = omega (arith, ints); to = omega (arith, ints) });
       ends_left = λ dx eq.
-        let k : (e.low -ℤ pos 1) ≡ (s.low -ℤ pos 1) = omega (arith, ints) in
-        let D : ℤ → Type 0 = λ x. HasNumber d x in
-        let E : ℤ → Type 0 = λ x. g x ≡ l in
-        r.ends_left (subst D k dx) (sym (p.elsewhere (s.low -ℤ pos 1) (before_area area (s.low -ℤ pos 1) (omega (arith, ints)))) ∙ subst E k eq);
+          let k : (e.low -ℤ pos 1) ≡ (s.low -ℤ pos 1) = omega (arith, ints) in
+          let D : ℤ → Type 0 = λ x. HasNumber d x in
+          let E : ℤ → Type 0 = λ x. g x ≡ l in
+          r.ends_left (subst D k dx) (sym (p.elsewhere (s.low -ℤ pos 1) (before_area area (s.low -ℤ pos 1) (omega (arith, ints)))) ∙ subst E k eq);
       ends_right = λ dx eq.
-        let k : (e.high +ℤ pos 1) ≡ area.low = omega (arith, ints) in
-        let E : ℤ → Type 0 = λ x. g x ≡ l in
-        n (sym (subst E k eq) ∙ p.within area.low (record { from = omega (arith, ints); to = o }));
+          let k : (e.high +ℤ pos 1) ≡ area.low = omega (arith, ints) in
+          let E : ℤ → Type 0 = λ x. g x ≡ l in
+          n (sym (subst E k eq) ∙ p.within area.low (record { from = omega (arith, ints); to = o }));
     }
 
 -- what of a run lies to the right of the painted numbers
@@ -44,17 +44,17 @@ right_part d area s e m l f g p r h n low high =
     record {
       inside = record { from = omega (arith, ints); to = omega (arith, ints) };
       same = λ x hx.
-        let a = hx.from in let b = hx.to in
-        p.elsewhere x (after_area area x (omega (arith, ints))) ∙ r.same x (record { from = omega (arith, ints); to = omega (arith, ints) });
+          let a = hx.from in let b = hx.to in
+          p.elsewhere x (after_area area x (omega (arith, ints))) ∙ r.same x (record { from = omega (arith, ints); to = omega (arith, ints) });
       ends_left = λ dx eq.
-        let k : (e.low -ℤ pos 1) ≡ area.high = omega (arith, ints) in
-        let E : ℤ → Type 0 = λ x. g x ≡ l in
-        n (sym (subst E k eq) ∙ p.within area.high (record { from = o; to = omega (arith, ints) }));
+          let k : (e.low -ℤ pos 1) ≡ area.high = omega (arith, ints) in
+          let E : ℤ → Type 0 = λ x. g x ≡ l in
+          n (sym (subst E k eq) ∙ p.within area.high (record { from = o; to = omega (arith, ints) }));
       ends_right = λ dx eq.
-        let k : (e.high +ℤ pos 1) ≡ (s.high +ℤ pos 1) = omega (arith, ints) in
-        let D : ℤ → Type 0 = λ x. HasNumber d x in
-        let E : ℤ → Type 0 = λ x. g x ≡ l in
-        r.ends_right (subst D k dx) (sym (p.elsewhere (s.high +ℤ pos 1) (after_area area (s.high +ℤ pos 1) (omega (arith, ints)))) ∙ subst E k eq);
+          let k : (e.high +ℤ pos 1) ≡ (s.high +ℤ pos 1) = omega (arith, ints) in
+          let D : ℤ → Type 0 = λ x. HasNumber d x in
+          let E : ℤ → Type 0 = λ x. g x ≡ l in
+          r.ends_right (subst D k dx) (sym (p.elsewhere (s.high +ℤ pos 1) (after_area area (s.high +ℤ pos 1) (omega (arith, ints)))) ∙ subst E k eq);
     }
 
 -- the new label's run can start here: it has the label up to the painted numbers, and not before
@@ -127,9 +127,9 @@ pub middle_run : (d area e : Interval) (m : Label) (f g : ℤ → Label) → IsP
 middle_run d area e m f g p l r = record {
   inside = record { from = l.inside; to = r.inside };
   same = λ x h.
-    by_lt_z x area.low
-    (λ before. l.same x h.from before)
-    (λ from. by_lt_z area.high x
+      by_lt_z x area.low
+      (λ before. l.same x h.from before)
+      (λ from. by_lt_z area.high x
       (λ after. r.same x h.to after)
       (λ to. p.within x (record { from = from; to = to })));
   ends_left = l.ends;

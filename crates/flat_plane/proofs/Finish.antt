@@ -1,5 +1,5 @@
 -- A draft that holds each point of the domain has its strips.
-use Rattle.std.proofs.Common.{ℤ, pos, ◌-ℤ◌, ◌+ℤ◌, ◌≤ℤ◌, ◌≡◌, sym, subst, ◌⊎◌, inl, inr, List, Contains, arith}
+use Rattle.std.proofs.Common.{ℤ, pos, ◌-ℤ◌, ◌+ℤ◌, ◌≤ℤ◌, sym, subst, inl, inr, List, Contains, arith}
 use Rattle.std.proofs.lemmas.Int.{ints}
 use Rattle.geo_rect.specs.declared.ids.Label.{Label}
 use Rattle.geo_rect.specs.declared.shapes.Point.{Point}
@@ -34,11 +34,11 @@ strips_from_draft domain f ss d covered = record {
   each = λ s hs. let o = s.area.y_ordered in record {
     in_each_row = d.runs s hs;
     ends_below = λ r.
-      let own = run_is_own domain f ss s (s.area.y0 -ℤ pos 1) d covered hs r (omega (arith, ints)) (omega (arith, ints)) in
-      let a = own.from in omega (arith, ints);
+        let own = run_is_own domain f ss s (s.area.y0 -ℤ pos 1) d covered hs r (omega (arith, ints)) (omega (arith, ints)) in
+        let a = own.from in omega (arith, ints);
     ends_above = λ r.
-      let own = run_is_own domain f ss s (s.area.y1 +ℤ pos 1) d covered hs r (omega (arith, ints)) (omega (arith, ints)) in
-      let a = own.to in omega (arith, ints);
+        let own = run_is_own domain f ss s (s.area.y1 +ℤ pos 1) d covered hs r (omega (arith, ints)) (omega (arith, ints)) in
+        let a = own.to in omega (arith, ints);
   };
   covered = covered;
   in_order = d.in_order;
@@ -47,11 +47,11 @@ strips_from_draft domain f ss d covered = record {
 pub all_painted : (strips : List Strip) (brush : Brush) (new : List Strip) → CanPaint strips brush → IsDraftOf strips brush new → HoldsUntouched strips brush new → HoldsOutside strips brush new → HoldsRows brush.domain (rows brush.area) new → AreStrips brush.domain (new_labels strips brush) new
 all_painted strips brush new can d untouched outside in_rows =
     strips_from_draft brush.domain (new_labels strips brush) new d (λ p inside.
-      let h : IsHeld strips p = can.plane.covered p inside in
-      elim (number_decided (rows brush.area) p.y) [
-        inl hy ↦ in_rows p inside hy
+    let h : IsHeld strips p = can.plane.covered p inside in
+    elim (number_decided (rows brush.area) p.y) [
+      | inl hy ↦ in_rows p inside hy
       | inr n ↦ elim (affected_decided brush.area h.by.area) [
-          inl a ↦ outside h.by h.is_listed a p h.has_point n
+        | inl a ↦ outside h.by h.is_listed a p h.has_point n
         | inr m ↦ untouched h.by h.is_listed m p h.has_point
-        ]
-      ])
+      ]
+    ])

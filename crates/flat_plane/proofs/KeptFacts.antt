@@ -1,5 +1,5 @@
 -- What a flat plane keeps, and what its callers learn.
-use Rattle.std.proofs.Common.{ℤ, pos, ◌-ℤ◌, ◌+ℤ◌, ◌≤ℤ◌, ◌≡◌, refl, sym, subst, ap, ◌∙◌, List, [], ◌∷◌, Contains, arith}
+use Rattle.std.proofs.Common.{ℤ, ◌≡◌, refl, sym, subst, ap, ◌∙◌, List, [], ◌∷◌, Contains, arith}
 use Rattle.std.proofs.lemmas.Int.{ints}
 use Rattle.geo_rect.specs.declared.ids.Label.{Label}
 use Rattle.geo_rect.specs.declared.ids.Label.TheVariants.{Free}
@@ -10,7 +10,7 @@ use Rattle.geo_rect.specs.Axis.{HasNumber, LiesWithin}
 use Rattle.geo_rect.specs.Plane.{columns, rows, HasPoint, LiesIn}
 use Rattle.plane_core.specs.declared.strips.Strip.{Strip}
 use Rattle.plane_core.specs.Choice.{IsChoice, Meets}
-use Rattle.plane_core.specs.Labels.{label_of, painted, IsPainted, IsPlane, IsSmall, IsWithinReach}
+use Rattle.plane_core.specs.Labels.{label_of, painted, IsPainted, IsSmall, IsWithinReach}
 use Rattle.plane_core.specs.Strips.{AreStrips, IsHeld, IsRunInRow, IsStrip}
 use Rattle.plane_core.proofs.Choices.{has_one, order_one}
 use Rattle.plane_core.proofs.Labelled.{labels_painted, plane_from_strips}

@@ -139,7 +139,11 @@ fn add_rows(
 }
 
 /// The strips once the area is painted.
-pub fn painted_strips(alloc: Global, strips: &[Strip], brush: Brush) -> Result<List<Strip>, NoMemory>
+pub fn painted_strips(
+    alloc: Global,
+    strips: &[Strip],
+    brush: Brush,
+) -> Result<List<Strip>, NoMemory>
     requires { CanPaint strips.now brush }
     ensures { IfOk result (AreStrips brush.domain (new_labels strips.now brush)) }
 {

@@ -12,6 +12,7 @@ use std::test::Fail;
 type Row = (Label, i32, i32, i32, i32);
 
 const ONE: Label = Label::One(NetId(0));
+
 const OTHER: Label = Label::One(NetId(1));
 
 fn lies_in(area: Rect, domain: Rect) -> bool
@@ -183,7 +184,14 @@ fn a_square_and_its_four_sides(rt: HostRuntime) -> Result<(), Fail> {
     for (side, row) in &sides {
         expect_beside(&rt, alloc, &square, at, *side, [*row].as_slice())?;
     }
-    expect_beside(&rt, alloc, &square, Point { x: 0, y: 4 }, Side::Left, [].as_slice())?;
+    expect_beside(
+        &rt,
+        alloc,
+        &square,
+        Point { x: 0, y: 4 },
+        Side::Left,
+        [].as_slice(),
+    )?;
     let none = paint_all(&rt, alloc, square, [(Label::Free, 3, 3, 6, 6)].as_slice())?;
     expect_all(&rt, alloc, &none, [(Label::Free, 0, 0, 9, 9)].as_slice())?;
     Ok(())

@@ -1,12 +1,11 @@
-use Rattle.std.proofs.Common.{ℤ, pos, ◌-ℤ◌, ◌+ℤ◌, ◌≡◌, sym, subst, ap, ◌∙◌, Option, Some, None, arith}
+use Rattle.std.proofs.Common.{ℤ, pos, ◌-ℤ◌, ◌+ℤ◌, ◌≡◌, sym, subst, ap, ◌∙◌, arith}
 use Rattle.std.proofs.lemmas.Int.{ints}
 use Rattle.geo_rect.specs.declared.shapes.Interval.{Interval}
 use Rattle.geo_rect.specs.Axis.{HasNumber, LiesWithin}
-use Rattle.geo_rect.specs.Plane.{columns, rows}
-use Rattle.plane_core.specs.declared.strips.Strip.{Strip}
+use Rattle.geo_rect.specs.Plane.{rows}
 use Rattle.plane_core.proofs.Runs.{within_has}
-use Rattle.flat_plane.specs.Painting.{IsCapped, IsLeftEnd, IsRightEnd}
-use Rattle.flat_plane.proofs.BandFacts.{beyond_from, capped_on, ends_from, starts_by, starts_in}
+use Rattle.flat_plane.specs.Painting.{IsLeftEnd, IsRightEnd}
+use Rattle.flat_plane.proofs.BandFacts.{beyond_from, capped_on}
 use Rattle.flat_plane.proofs.bands.band_at.Goals as goal
 
 pub returns-clause-band : goal.returns-clause-band
@@ -30,10 +29,10 @@ returns-clause-band c =
     record {
       rows_inside = record { from = omega (arith, ints); to = omega (arith, ints) };
       left = beyond_from strips brush.domain (brush.area.x0 -ℤ pos 1) c.capped-2.result c.point_before.result c.strip_at-left.result c.strip_at-left.ensures
-        (omega (arith, ints)) (subst U (sym c.point_before.ensures.y) foot')
-        (capped_on c.capped.result c.capped-2.result c.strip_at-left.result within_first c.capped.ensures.capped);
+          (omega (arith, ints)) (subst U (sym c.point_before.ensures.y) foot')
+          (capped_on c.capped.result c.capped-2.result c.strip_at-left.result within_first c.capped.ensures.capped);
       right = beyond_from strips brush.domain (brush.area.x1 +ℤ pos 1) c.capped-2.result c.point_after.result c.strip_at-right.result c.strip_at-right.ensures
-        (omega (arith, ints)) (subst U (sym c.point_after.ensures.y) foot') c.capped-2.ensures.capped;
+          (omega (arith, ints)) (subst U (sym c.point_after.ensures.y) foot') c.capped-2.ensures.capped;
       left_end = subst LE col0 (subst LV (sym c.grown_right.ensures.low) c.grown_left-across.ensures.low);
       right_end = subst RE (c.grown_left-across.ensures.high ∙ col1) c.grown_right.ensures.high;
     }

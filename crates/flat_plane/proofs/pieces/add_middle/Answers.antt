@@ -1,4 +1,4 @@
-use Rattle.std.proofs.Common.{◌≡◌, sym, subst, List}
+use Rattle.std.proofs.Common.{sym, subst, List}
 use Rattle.geo_rect.specs.Plane.{HasPoint}
 use Rattle.plane_core.specs.declared.strips.Strip.{Strip}
 use Rattle.flat_plane.specs.Draft.{AreApart, IsRunInEachRow, KeepsPoints}
@@ -15,7 +15,7 @@ returns-clause-draft c =
     let brush = c.args.brush in
     let D : List Strip → Type 0 = λ l. IsDraftOf strips brush l in
     let runs : IsRunInEachRow brush.domain (new_labels strips brush) c.strip_of-piece.result =
-      middle_runs strips brush c.args.band c.strip_of-piece.result c.requires.can_paint c.requires.band c.strip_of-piece.ensures in
+    middle_runs strips brush c.args.band c.strip_of-piece.result c.requires.can_paint c.requires.band c.strip_of-piece.ensures in
     c.in_ok-new.ensures.draft brush.domain (new_labels strips brush) (subst D (sym c.as_slice.ensures) c.requires.draft) runs
 
 pub returns-clause-keeps : goal.returns-clause-keeps

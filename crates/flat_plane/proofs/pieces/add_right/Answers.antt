@@ -1,4 +1,4 @@
-use Rattle.std.proofs.Common.{ℤ, pos, ◌-ℤ◌, ◌+ℤ◌, ◌≡◌, true, false, sym, subst, List, Option}
+use Rattle.std.proofs.Common.{ℤ, pos, ◌+ℤ◌, ◌≡◌, true, false, sym, subst, List, Option}
 use Rattle.geo_rect.specs.declared.shapes.Interval.{Interval}
 use Rattle.geo_rect.specs.Plane.{columns}
 use Rattle.plane_core.specs.declared.strips.Strip.{Strip}
@@ -24,11 +24,11 @@ returns-clause-draft c =
     let Q1 : Interval → Type 0 = λ i. IsPartAfter i c.columns-2.result c.part_after-across.result in
     let Q2 : Interval → Type 0 = λ j. IsPartAfter (columns strip.area) j c.part_after-across.result in
     let part : IsPartAfter (columns strip.area) (columns brush.area) c.part_after-across.result =
-      subst Q2 c.columns-2.ensures (subst Q1 c.columns.ensures c.part_after-across.ensures) in
+    subst Q2 c.columns-2.ensures (subst Q1 c.columns.ensures c.part_after-across.ensures) in
     let other : ¬ (strip.label ≡ brush.label) =
-      λ e. (let yes' : c.are_same_label.result ≡ true = c.are_same_label.ensures.1 e in let no' : c.are_same_label.result ≡ false = c.if-are_same_label.false in cc) in
+    λ e. (let yes' : c.are_same_label.result ≡ true = c.are_same_label.ensures.1 e in let no' : c.are_same_label.result ≡ false = c.if-are_same_label.false in cc) in
     let runs : IsRunInEachRow brush.domain (new_labels strips brush) c.strip_of-piece.result =
-      right_runs strips brush band.rows c.part_after-across.result strip c.strip_of-piece.result c.requires.can_paint c.requires.band.rows_inside at other part c.strip_of-piece.ensures in
+    right_runs strips brush band.rows c.part_after-across.result strip c.strip_of-piece.result c.requires.can_paint c.requires.band.rows_inside at other part c.strip_of-piece.ensures in
     c.in_ok-new.ensures.draft brush.domain (new_labels strips brush) on_slice runs
 
 pub returns-clause-keeps : goal.returns-clause-keeps
@@ -41,8 +41,8 @@ returns-clause-adds c =
     let Q1 : Interval → Type 0 = λ i. IsPartAfter i c.columns-2.result c.part_after-across.result in
     let Q2 : Interval → Type 0 = λ j. IsPartAfter (columns strip.area) j c.part_after-across.result in
     let part : IsPartAfter (columns strip.area) (columns brush.area) c.part_after-across.result =
-      subst Q2 c.columns-2.ensures (subst Q1 c.columns.ensures c.part_after-across.ensures) in
+    subst Q2 c.columns-2.ensures (subst Q1 c.columns.ensures c.part_after-across.ensures) in
     let H : Option Strip → Type 0 = λ o. HoldsRight brush c.args.band.rows o c.in_ok-new.new in
     subst H (sym c.in-Some.is) (λ n p hp off hy.
-      c.in_ok-new.ensures.adds p
-      (right_has brush c.args.band.rows c.part_after-across.result strip c.strip_of-piece.result p part c.strip_of-piece.ensures hp off hy))
+    c.in_ok-new.ensures.adds p
+    (right_has brush c.args.band.rows c.part_after-across.result strip c.strip_of-piece.result p part c.strip_of-piece.ensures hp off hy))

@@ -1,5 +1,4 @@
-use Rattle.std.proofs.Common.{ℤ, pos, ◌+ℤ◌, ◌≤ℤ◌, ◌<ℤ◌, ◌≡◌, arith}
-use Rattle.std.specs.Int.{int_max}
+use Rattle.std.proofs.Common.{arith}
 use Rattle.std.proofs.lemmas.Int.{ints, clamps, by_lt_z}
 use Rattle.flat_plane.proofs.RowsLeft.{rows_fewer}
 use Rattle.flat_plane.proofs.pieces.add_rows.Goals as goal
@@ -30,7 +29,7 @@ loop-new-preserved c =
       inside = record { from = omega (arith, ints, clamps); to = omega (arith, ints, clamps) };
       last = let e = c.loop-new.invariant.last in omega (arith, ints, clamps);
       so_far = λ p inside from less.
-        by_lt_z p.y c.loop-new.rest.low
-        (λ below. c.in_ok-new.ensures.keeps p (c.loop-new.invariant.so_far p inside from below))
-        (λ reach. c.in_ok-new.ensures.adds p inside (record { from = omega (arith, ints); to = omega (arith, ints, clamps) }));
+          by_lt_z p.y c.loop-new.rest.low
+          (λ below. c.in_ok-new.ensures.keeps p (c.loop-new.invariant.so_far p inside from below))
+          (λ reach. c.in_ok-new.ensures.adds p inside (record { from = omega (arith, ints); to = omega (arith, ints, clamps) }));
     }

@@ -1,4 +1,4 @@
-use Rattle.std.proofs.Common.{ℤ, ◌-ℤ◌, ◌≤ℤ◌, ◌<ℤ◌, ◌≡◌}
+use Rattle.std.proofs.Common.{◌-ℤ◌, ◌≤ℤ◌, ◌<ℤ◌, ◌≡◌}
 use Rattle.std.specs.Int.RustNames.{unsigned_abs}
 use Rattle.geo_rect.specs.declared.shapes.Point.{Point}
 use Rattle.geo_rect.specs.Axis.{LiesWithin}

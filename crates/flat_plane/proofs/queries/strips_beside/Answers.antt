@@ -12,13 +12,13 @@ loop-strip-preserved c =
     let s : Strip = c.strip-item.result in
     let P : List Strip → Type 0 = λ l. IsChoice (take (c.loop-strip.strip-index + 1) c.args.strips.now) (λ s. IsBeside c.args.side c.args.t s.area) l in
     elim c.if-is_beside.branch [
-      then-is_beside+in_ok-push w ↦
-        subst P (sym (w.found-is ∙ w.in_ok-push.ensures.ok))
-        (choice_taken c.args.strips.now c.loop-strip.found (λ s. IsBeside c.args.side c.args.t s.area) c.loop-strip.strip-index s c.requires.in_order c.loop-strip-test.true c.strip-item.is
+      | then-is_beside+in_ok-push w ↦
+          subst P (sym (w.found-is ∙ w.in_ok-push.ensures.ok))
+          (choice_taken c.args.strips.now c.loop-strip.found (λ s. IsBeside c.args.side c.args.t s.area) c.loop-strip.strip-index s c.requires.in_order c.loop-strip-test.true c.strip-item.is
           (c.is_beside.ensures.0 w.if-is_beside.true) c.loop-strip.invariant)
-    | else-is_beside w ↦
-        subst P (sym w.found-is)
-        (choice_left c.args.strips.now c.loop-strip.found (λ s. IsBeside c.args.side c.args.t s.area) c.loop-strip.strip-index s c.loop-strip-test.true c.strip-item.is
+      | else-is_beside w ↦
+          subst P (sym w.found-is)
+          (choice_left c.args.strips.now c.loop-strip.found (λ s. IsBeside c.args.side c.args.t s.area) c.loop-strip.strip-index s c.loop-strip-test.true c.strip-item.is
           (λ v. let yes' : c.is_beside.result ≡ true = c.is_beside.ensures.1 v in let no' : c.is_beside.result ≡ false = w.if-is_beside.false in cc)
           c.loop-strip.invariant)
     ]

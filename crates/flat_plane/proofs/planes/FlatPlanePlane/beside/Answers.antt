@@ -1,4 +1,4 @@
-use Rattle.std.proofs.Common.{◌≡◌, sym, subst, List, Contains, IfOk}
+use Rattle.std.proofs.Common.{◌≡◌, subst, List, Contains, IfOk}
 use Rattle.plane_core.specs.declared.strips.Strip.{Strip}
 use Rattle.plane_core.specs.Choice.{IsChoice}
 use Rattle.plane_core.specs.Sides.{IsBeside}

@@ -1,4 +1,4 @@
-use Rattle.std.proofs.Common.{◌≡◌, ◌∙◌, ap, List, [], ◌∷◌, ◌++◌}
+use Rattle.std.proofs.Common.{◌∙◌, ap, List, [], ◌∷◌, ◌++◌}
 use Rattle.geo_rect.specs.declared.ids.Label.TheVariants.{Free}
 use Rattle.plane_core.specs.declared.strips.Strip.{Strip}
 use Rattle.flat_plane.proofs.KeptFacts.{new_kept}

@@ -1,4 +1,3 @@
-use Rattle.flat_plane.specs.Painting.{new_labels}
 use Rattle.flat_plane.proofs.KeptFacts.{painted_kept, painted_now}
 use Rattle.flat_plane.proofs.planes.FlatPlanePlane.paint.Goals as goal
 
@@ -15,4 +14,4 @@ returns-clause-labels c =
 pub returns-clause-canonical : goal.returns-clause-canonical
 returns-clause-canonical c =
     (painted_kept c.self.inside.domain c.self.inside.strips c.as_slice.result.now c.in_ok-strips.strips c.args.area c.args.label
-      c.self.invariant c.as_slice.ensures c.in_ok-strips.ensures).canonical
+    c.self.invariant c.as_slice.ensures c.in_ok-strips.ensures).canonical
