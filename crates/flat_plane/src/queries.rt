@@ -6,9 +6,8 @@ ghost use Rattle.plane_core.specs.Labels.{IsSmall};
 ghost use Rattle.plane_core.specs.Sides.{IsBeside};
 ghost use Rattle.plane_core.specs.Strips.{IsInOrder};
 
-use crate::checks::meets;
 use geo_rect::{NoMemory, Rect};
-use plane_core::{Side, Strip, Strips};
+use plane_core::{Side, Strip, Strips, meets};
 use std::alloc::Global;
 
 /// The strips that have a point of the area.
