@@ -1,3 +1,5 @@
+pub mod Groups
+pub mod Known
 pub mod Lookup
 pub mod Rules
 pub mod Segments

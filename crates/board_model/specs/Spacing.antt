@@ -1,11 +1,10 @@
 -- The rules between shapes: gap and outline.
-use Rattle.std.specs.Prelude.{ℕ, ℤ, pos, ◌≡◌, ◌==◌, Bool, true, false, ◌&&◌, not, Option, Some, None, int_le}
+use Rattle.std.specs.Prelude.{ℤ, pos, ◌==◌, Bool, true, false, ◌&&◌, not, Option, Some, None, int_le}
 use Rattle.std.specs.Int.{int_max}
 use Rattle.geo_rect.specs.declared.ids.ClassId.{ClassId}
 use Rattle.geo_rect.specs.declared.ids.LayerId.{LayerId}
 use Rattle.geo_rect.specs.declared.ids.NetId.{NetId}
 use Rattle.geo_rect.specs.declared.shapes.Rect.{Rect}
-use Rattle.geo_rect.specs.Plane.{IsTooClose}
 use Rattle.geo_rect.specs.Tests.{are_too_close}
 use Rattle.board_model.specs.declared.parts.BoardParts.{BoardParts}
 use Rattle.board_model.specs.declared.shapes.Shape.{Shape}

@@ -5,19 +5,10 @@ ghost use Rattle.board_model.specs.Violations.{violations_of};
 ghost use Rattle.board_model.specs.Shapes.{state_shapes};
 
 use crate::boards::Board;
-use crate::parts::{Block, BoardParts, Pin, Rule, ViaKind};
-use geo_rect::{ClassId, KindId, LayerId, NetId, NoMemory};
-use std::alloc::Global;
+use crate::parts::{Block, Pin, Rule, ViaKind};
+use geo_rect::{ClassId, KindId, LayerId, NetId};
 
 impl Board {
-    /// The board of these parts, which keep every rule of the board text.
-    pub fn build(_alloc: Global, parts: BoardParts) -> Result<Board, NoMemory>
-        requires { IsBoard parts }
-        ensures { IfOk result (λ b. b.parts ≡ parts) }
-    {
-        Ok(Board { parts })
-    }
-
     /// In micrometres: the points of the board have x from 0 to this.
     pub fn width(&self) -> i32
         ensures { result ≡ self.now.parts.width }
@@ -78,6 +69,7 @@ impl Board {
         self.parts.pads.as_slice()[k.0 as usize * self.parts.classes.len() + c.0 as usize]
     }
 
+    /// The layers that a kind of via joins, and what one costs.
     pub fn kind(&self, k: KindId) -> ViaKind
         requires { k.0 < length self.now.parts.kinds }
         ensures { result ≡ kind_of self.now.parts k }
@@ -85,9 +77,11 @@ impl Board {
         self.parts.kinds.as_slice()[k.0 as usize]
     }
 
+    /// The class of a net.
     pub fn class_of(&self, n: NetId) -> ClassId
         requires { n.0 < length self.now.parts.net_names }
-        ensures { result ≡ class_of self.now.parts n }
+        ensures class { result ≡ class_of self.now.parts n }
+        ensures known { result.0 < length self.now.parts.classes }
     {
         self.parts.net_classes.as_slice()[n.0 as usize]
     }

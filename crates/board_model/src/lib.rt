@@ -5,10 +5,18 @@
 mod accessors;
 mod boards;
 mod commands;
+mod gaps;
 mod limits;
 mod made;
+mod name_index;
+mod names;
+mod net_pins;
+mod outlines;
 mod parts;
+mod rules;
 mod shapes;
+mod states;
+mod validity;
 
 pub use boards::Board;
 pub use commands::Command;
@@ -19,3 +27,4 @@ pub use limits::{
 pub use made::{Conn, Leg, Made};
 pub use parts::{Block, BoardParts, Pin, Rule, ViaKind};
 pub use shapes::{Owned, Shape, Violation};
+pub use states::all_shapes;

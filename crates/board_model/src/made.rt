@@ -1,4 +1,8 @@
-use geo_rect::{KindId, List, Node};
+ghost use Rattle.std.specs.Prelude.{◌≡◌, ◌<◌, length, replicate, [], IfOk, slice_index_or};
+
+use crate::boards::Board;
+use geo_rect::{KindId, List, NetId, NoMemory, Node};
+use std::alloc::Global;
 
 /// A step of a connection: a wire in a line to a node of the same layer, or a via of a kind to a
 /// node of another layer at the same place.
@@ -20,4 +24,25 @@ pub struct Conn {
 #[derive(Debug, Drop)]
 pub struct Made {
     pub lists: List<List<Conn>>,
+}
+
+impl Made {
+    /// No connections: an empty list for each net.
+    pub fn none(alloc: Global, board: &Board) -> Result<Made, NoMemory>
+        ensures { IfOk result (λ m. m.lists ≡ replicate (length board.now.parts.net_names) []) }
+    {
+        let mut lists = List::new(alloc);
+        for _net in 0..board.nets() {
+            lists.push(List::new(alloc))?;
+        }
+        Ok(Made { lists })
+    }
+
+    /// The connections of a net, in the order in which they were made.
+    pub fn conns(&self, n: NetId) -> &[Conn]
+        requires { n.0 < length self.now.lists }
+        ensures { result.now ≡ slice_index_or self.now.lists n.0 [] }
+    {
+        self.lists.as_slice()[n.0 as usize].as_slice()
+    }
 }

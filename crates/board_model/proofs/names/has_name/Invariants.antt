@@ -1,0 +1,6 @@
+use Rattle.std.proofs.Common.{◌≢◌, ℕ, ◌<◌, List, get_or}
+use Rattle.board_model.proofs.names.has_name.Given as goal
+
+-- none of the names so far is the name
+abbrev pub invariant-loop-other : goal.invariant-loop-other
+invariant-loop-other l = (k : ℕ) (d : List ℕ) → k < l.other-index → get_or l.names k d ≢ l.name

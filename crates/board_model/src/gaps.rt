@@ -1,0 +1,37 @@
+ghost use Rattle.std.specs.Prelude.{◌≡◌, ◌<◌, length};
+ghost use Rattle.board_model.specs.Known.{IsOwner};
+ghost use Rattle.board_model.specs.Spacing.{gap_to, gap_between};
+
+use crate::boards::Board;
+use geo_rect::{ClassId, LayerId, NetId};
+
+impl Board {
+    /// The gap that a class keeps on a layer to what an owner has, in micrometres: to a net the
+    /// greater of the gaps of the two classes, to a blockage the class's own.
+    pub fn gap_to(&self, l: LayerId, c: ClassId, owner: Option<NetId>) -> i32
+        requires layer { l.0 < length self.now.parts.layers }
+        requires class { c.0 < length self.now.parts.classes }
+        requires owner { IsOwner self.now.parts owner }
+        ensures { result ≡ gap_to self.now.parts l c owner }
+    {
+        let own = self.rule(l, c).gap;
+        match owner {
+            None => own,
+            Some(n) => own.max(self.rule(l, self.class_of(n)).gap),
+        }
+    }
+
+    /// The gap between what two owners have on a layer, in micrometres. It is 0 for two blockages.
+    pub fn gap_between(&self, l: LayerId, a: Option<NetId>, b: Option<NetId>) -> i32
+        requires layer { l.0 < length self.now.parts.layers }
+        requires first { IsOwner self.now.parts a }
+        requires second { IsOwner self.now.parts b }
+        ensures { result ≡ gap_between self.now.parts l a b }
+    {
+        match (a, b) {
+            (Some(m), _) => self.gap_to(l, self.class_of(m), b),
+            (None, Some(n)) => self.gap_to(l, self.class_of(n), None),
+            (None, None) => 0,
+        }
+    }
+}

@@ -1,0 +1,157 @@
+//! Whether the lists of a board keep every rule of the board text.
+
+ghost use Rattle.std.specs.Prelude.{◌↔◌, ◌<◌, ◌≤◌, IsTrue, length, All};
+ghost use Rattle.geo_rect.specs.declared.ids.ClassId.{ClassId};
+ghost use Rattle.board_model.specs.Rules.{IsBoard, IsRule, IsKind, IsMeasure, IsBlock, IsPin, AreNames};
+ghost use Rattle.board_model.specs.Groups.{HasFrame, HasLayers, HasRules, HasKinds, HasNets, HasAreas};
+
+use crate::limits::{MAX_BLOCKS, MAX_CLASSES, MAX_KINDS, MAX_LAYERS, MAX_NETS, MAX_PINS};
+use crate::names::are_names;
+use crate::parts::{Block, BoardParts, Pin, Rule, ViaKind};
+use crate::rules::{is_block, is_kind, is_measure, is_name, is_pin, is_rule, is_side};
+use geo_rect::ClassId;
+
+impl BoardParts {
+    /// Whether the lists keep every rule of the board text. It takes no memory, and time in the
+    /// square of the number of nets.
+    pub fn is_board(&self) -> bool
+        ensures { IsTrue result ↔ IsBoard self.now }
+    {
+        if !has_frame(self) {
+            return false;
+        }
+        if !has_layers(self) {
+            return false;
+        }
+        if !has_rules(self) {
+            return false;
+        }
+        if !has_kinds(self) {
+            return false;
+        }
+        if !has_nets(self) {
+            return false;
+        }
+        has_areas(self)
+    }
+}
+
+fn has_frame(parts: &BoardParts) -> bool
+    ensures { IsTrue result ↔ HasFrame parts.now }
+{
+    if !is_name(parts.name.as_bytes()) {
+        return false;
+    }
+    if !is_side(parts.width) {
+        return false;
+    }
+    is_side(parts.height)
+}
+
+fn has_layers(parts: &BoardParts) -> bool
+    ensures { IsTrue result ↔ HasLayers parts.now }
+{
+    if parts.layers.is_empty() {
+        return false;
+    }
+    if parts.classes.is_empty() {
+        return false;
+    }
+    if !are_names(MAX_LAYERS, parts.layers.as_slice()) {
+        return false;
+    }
+    are_names(MAX_CLASSES, parts.classes.as_slice())
+}
+
+fn are_rules(rules: &[Rule]) -> bool
+    ensures { IsTrue result ↔ All IsRule rules.now }
+{
+    rules.iter().all(|rule| is_rule(*rule))
+}
+
+fn has_rules(parts: &BoardParts) -> bool
+    requires layers { length parts.now.layers ≤ MAX_LAYERS }
+    requires classes { length parts.now.classes ≤ MAX_CLASSES }
+    ensures { IsTrue result ↔ HasRules parts.now }
+{
+    if parts.rules.len() != parts.layers.len() * parts.classes.len() {
+        return false;
+    }
+    are_rules(parts.rules.as_slice())
+}
+
+fn are_kinds(layers: usize, kinds: &[ViaKind]) -> bool
+    ensures { IsTrue result ↔ All (IsKind layers) kinds.now }
+{
+    kinds.iter().all(|kind| is_kind(layers, *kind))
+}
+
+fn are_measures(measures: &[i32]) -> bool
+    ensures { IsTrue result ↔ All IsMeasure measures.now }
+{
+    measures.iter().all(|measure| is_measure(*measure))
+}
+
+fn has_kinds(parts: &BoardParts) -> bool
+    requires { length parts.now.classes ≤ MAX_CLASSES }
+    ensures { IsTrue result ↔ HasKinds parts.now }
+{
+    if !are_names(MAX_KINDS, parts.kind_names.as_slice()) {
+        return false;
+    }
+    if parts.kinds.len() != parts.kind_names.len() {
+        return false;
+    }
+    if !are_kinds(parts.layers.len(), parts.kinds.as_slice()) {
+        return false;
+    }
+    if parts.pads.len() != parts.kinds.len() * parts.classes.len() {
+        return false;
+    }
+    are_measures(parts.pads.as_slice())
+}
+
+fn are_classes(classes: usize, ids: &[ClassId]) -> bool
+    ensures { IsTrue result ↔ All (λ (c : ClassId). c.0 < classes) ids.now }
+{
+    ids.iter().all(|id| (id.0 as usize) < classes)
+}
+
+fn has_nets(parts: &BoardParts) -> bool
+    ensures { IsTrue result ↔ HasNets parts.now }
+{
+    if !are_names(MAX_NETS, parts.net_names.as_slice()) {
+        return false;
+    }
+    if parts.net_classes.len() != parts.net_names.len() {
+        return false;
+    }
+    are_classes(parts.classes.len(), parts.net_classes.as_slice())
+}
+
+fn are_blocks(parts: &BoardParts, blocks: &[Block]) -> bool
+    ensures { IsTrue result ↔ All (IsBlock parts.now) blocks.now }
+{
+    blocks.iter().all(|block| is_block(parts, *block))
+}
+
+fn are_pins(parts: &BoardParts, pins: &[Pin]) -> bool
+    ensures { IsTrue result ↔ All (IsPin parts.now) pins.now }
+{
+    pins.iter().all(|pin| is_pin(parts, *pin))
+}
+
+fn has_areas(parts: &BoardParts) -> bool
+    ensures { IsTrue result ↔ HasAreas parts.now }
+{
+    if parts.blocks.len() > MAX_BLOCKS {
+        return false;
+    }
+    if parts.pins.len() > MAX_PINS {
+        return false;
+    }
+    if !are_blocks(parts, parts.blocks.as_slice()) {
+        return false;
+    }
+    are_pins(parts, parts.pins.as_slice())
+}

@@ -1,0 +1,42 @@
+//! All violations of a state.
+
+ghost use Rattle.std.specs.Prelude.{◌≡◌, ◌++◌, [], length, All, IfOk, OnOk};
+ghost use Rattle.board_model.specs.Known.{IsKnown};
+ghost use Rattle.board_model.specs.Shapes.{state_shapes};
+ghost use Rattle.board_model.specs.Violations.{violations_of};
+
+use crate::outlines::push_outline;
+use crate::pairs::push_close;
+use board_model::{Board, Made, Shape, Violation, all_shapes};
+use geo_rect::{List, NoMemory};
+use std::alloc::Global;
+
+/// The violations of the board with the connections that are made, in their order: for each shape
+/// first its outline, then each later shape that it is too close to. No net has a connection.
+pub fn violations(alloc: Global, board: &Board, made: &Made) -> Result<List<Violation>, NoMemory>
+    requires nets { length made.now.lists ≡ length board.now.parts.net_names }
+    requires none_made { All (λ conns. conns ≡ []) made.now.lists }
+    ensures { IfOk result (λ found.
+        found ≡ violations_of board.now.parts (state_shapes board.now.parts made.now.lists)) }
+{
+    let shapes = all_shapes(alloc, board, made)?;
+    let mut found = List::new(alloc);
+    push_violations(&mut found, board, shapes.as_slice())?;
+    Ok(found)
+}
+
+/// Adds the violations among the shapes.
+fn push_violations(
+    found: &mut List<Violation>,
+    board: &Board,
+    shapes: &[Shape],
+) -> Result<(), NoMemory>
+    requires { All (IsKnown board.now.parts) shapes.now }
+    ensures { OnOk result (found.new ≡ found.old ++ violations_of board.now.parts shapes.now) }
+{
+    for i in 0..shapes.len() {
+        push_outline(found, board, shapes[i])?;
+        push_close(found, board, shapes[i], &shapes[i + 1..])?;
+    }
+    Ok(())
+}
