@@ -1,5 +1,6 @@
 pub mod Groups
 pub mod Known
+pub mod Labels
 pub mod Lookup
 pub mod Rules
 pub mod Segments

@@ -1,0 +1,3 @@
+pub mod FrameParts
+pub mod Grown
+pub mod Kept
