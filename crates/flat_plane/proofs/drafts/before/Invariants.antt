@@ -1,0 +1,8 @@
+use Rattle.std.proofs.Common.{take}
+use Rattle.plane_core.specs.Choice.{IsChoice}
+use Rattle.flat_plane.specs.Draft.{StaysBefore}
+use Rattle.flat_plane.proofs.drafts.before.Given as goal
+
+-- the list has those of the strips so far
+abbrev pub invariant-loop-strip : goal.invariant-loop-strip
+invariant-loop-strip l = IsChoice (take l.strip-index l.draft) (StaysBefore l.whole) l.found

@@ -1,0 +1,10 @@
+pub mod Alike
+pub mod Choices
+pub mod Labelled
+pub mod Listed
+pub mod Local
+pub mod Members
+pub mod Ordered
+pub mod Runs
+pub mod Sharing
+pub mod Turns

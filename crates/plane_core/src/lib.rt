@@ -1,0 +1,15 @@
+//! Planes of maximal horizontal strips: what they are, and what every implementation of one keeps.
+//!
+//! All coordinates are whole micrometres.
+#![tactic(auto)]
+
+mod laws;
+mod planes;
+mod sides;
+mod strips;
+
+pub use laws::{each_strip_is_listed, local_form_is_enough, one_list_of_strips};
+pub use laws::{points_turn_with_rectangles, strips_give_labels, strips_have_local_form};
+pub use planes::Plane;
+pub use sides::Side;
+pub use strips::{Strip, Strips};
