@@ -1,0 +1,9 @@
+//! All planes of a state: one for the wires of each class on each layer, and one for the vias of
+//! each class of each kind. It stands over any `Plane`.
+//!
+//! All coordinates are whole micrometres.
+#![tactic(auto)]
+
+mod joins;
+
+pub use joins::paint_shape;
