@@ -4,6 +4,10 @@
 //! All coordinates are whole micrometres.
 #![tactic(auto)]
 
+mod adds;
+mod families;
 mod joins;
 
+pub use adds::{add_to_plane, add_to_rows};
+pub use families::Family;
 pub use joins::paint_shape;
