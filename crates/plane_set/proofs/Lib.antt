@@ -1,3 +1,4 @@
 pub mod Adding
+pub mod Barring
 pub mod Joining
 pub mod Places
