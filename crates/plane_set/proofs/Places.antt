@@ -42,7 +42,7 @@ each_mapped f Is [] h n y e = absurd (none-some y e)
 each_mapped f Is (x ∷ xs) h zero y e = subst (λ z. Is zero z) (same_Some (f x) y e) (h zero x refl)
 each_mapped f Is (x ∷ xs) h (suc n) y e = each_mapped f (λ m. Is (suc m)) xs (λ m z k. h (suc m) z k) n y e
 
-get_mapped : {A B : Type 0} (f : A → B) (xs : List A) (n : ℕ) (x : A) → slice_get xs n ≡ Some x → slice_get (map f xs) n ≡ Some (f x)
+pub get_mapped : {A B : Type 0} (f : A → B) (xs : List A) (n : ℕ) (x : A) → slice_get xs n ≡ Some x → slice_get (map f xs) n ≡ Some (f x)
 get_mapped f [] n x e = absurd (none-some x e)
 get_mapped f (z ∷ xs) zero x e = ap (λ y. Some (f y)) (same_Some z x e)
 get_mapped f (z ∷ xs) (suc n) x e = get_mapped f xs n x e

@@ -1,9 +1,11 @@
 ghost use Rattle.std.specs.Prelude.{◌≡◌, ◌<◌, ◌∷◌, ◌++◌, [], List, length, IfOk, Some, slice_get, slice_index_or};
 ghost use Rattle.board_model.specs.declared.shapes.Shape.{Shape as OneShape};
+ghost use Rattle.board_model.specs.declared.parts.BoardParts.{BoardParts};
+ghost use Rattle.board_model.specs.Labels.{wire_plane, via_plane};
 ghost use Rattle.board_model.specs.Known.{IsKnown};
 ghost use Rattle.board_model.specs.Shapes.{board_shapes};
 ghost use Rattle.grow_rules.specs.Given.{IsNearOrigin};
-ghost use Rattle.plane_set.specs.Drawings.{drawing_by};
+ghost use Rattle.plane_set.specs.Drawings.{drawing_by, Shows};
 ghost use Rattle.plane_set.specs.Standing.{HasPlanes, StandsFor};
 
 use crate::adds::add_to_rows;
@@ -69,7 +71,9 @@ impl<P: Plane> PlaneSet<P> {
     pub fn wire(&self, l: LayerId, c: ClassId) -> &P
         requires layer { l.0 < length self.now.wires }
         requires class { c.0 < length (slice_index_or self.now.wires l.0 []) }
-        ensures { slice_get (slice_index_or self.now.wires l.0 []) c.0 ≡ Some (drawing_by P.region P.strips result.now) }
+        ensures plane { slice_get (slice_index_or self.now.wires l.0 []) c.0 ≡ Some (drawing_by P.region P.strips result.now) }
+        ensures shows { (b : BoardParts) (shapes : List OneShape) → StandsFor b shapes self.now
+            → Shows b (wire_plane b l c) shapes (drawing_by P.region P.strips result.now) }
     {
         &self.wires[l.0 as usize][c.0 as usize]
     }
@@ -78,7 +82,9 @@ impl<P: Plane> PlaneSet<P> {
     pub fn via(&self, k: KindId, c: ClassId) -> &P
         requires kind { k.0 < length self.now.vias }
         requires class { c.0 < length (slice_index_or self.now.vias k.0 []) }
-        ensures { slice_get (slice_index_or self.now.vias k.0 []) c.0 ≡ Some (drawing_by P.region P.strips result.now) }
+        ensures plane { slice_get (slice_index_or self.now.vias k.0 []) c.0 ≡ Some (drawing_by P.region P.strips result.now) }
+        ensures shows { (b : BoardParts) (shapes : List OneShape) → StandsFor b shapes self.now
+            → Shows b (via_plane b k c) shapes (drawing_by P.region P.strips result.now) }
     {
         &self.vias[k.0 as usize][c.0 as usize]
     }
