@@ -16,6 +16,8 @@ mod parts;
 mod rules;
 mod shapes;
 mod states;
+#[cfg(test)]
+mod tests;
 mod validity;
 
 pub use boards::Board;
