@@ -1,2 +1,4 @@
+pub mod Lifts
 pub mod Same
 pub mod Tests
+pub mod Squares

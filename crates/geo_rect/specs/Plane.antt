@@ -1,9 +1,9 @@
 -- Rectangles in the plane, as what they are on each axis.
-use Rattle.std.specs.Prelude.{ℤ}
+use Rattle.std.specs.Prelude.{ℤ, pos}
 use Rattle.geo_rect.specs.declared.shapes.Interval.{Interval}
 use Rattle.geo_rect.specs.declared.shapes.Point.{Point}
 use Rattle.geo_rect.specs.declared.shapes.Rect.{Rect}
-use Rattle.geo_rect.specs.Axis.{HasNumber, IsNear, around}
+use Rattle.geo_rect.specs.Axis.{HasNumber, IsNear, IsSmall, around}
 use Rattle.geo_rect.specs.Axis as axis
 
 -- the columns of a rectangle
@@ -36,3 +36,27 @@ pub record LiesIn (a b : Rect) : Type 0 where
 pub record IsTooClose (a b : Rect) (s : ℤ) : Type 0 where
   pub across : IsNear (columns a) (columns b) s
   pub up : IsNear (rows a) (rows b) s
+
+-- all coordinates of r lie between -2^25 and 2^25
+pub record IsBounded (r : Rect) : Type 0 where
+  pub across : IsSmall (columns r)
+  pub up : IsSmall (rows r)
+
+-- r has exactly the points that a and b share
+pub record IsMeet (a b r : Rect) : Type 0 where
+  pub first : (p : Point) → HasPoint r p → HasPoint a p
+  pub second : (p : Point) → HasPoint r p → HasPoint b p
+  pub all : (p : Point) → HasPoint a p → HasPoint b p → HasPoint r p
+
+-- a and b share no point
+abbrev pub ShareNoPoint : Rect → Rect → Type 0
+ShareNoPoint a b = (p : Point) → HasPoint a p → HasPoint b p → ⊥
+
+-- the one point p as a rectangle
+abbrev pub lone : Point → Rect
+lone p = square p (pos 0)
+
+-- r has exactly the points that by themselves are too close to b for the gap g
+pub record IsGrown (b : Rect) (g : ℤ) (r : Rect) : Type 0 where
+  pub close : (p : Point) → HasPoint r p → IsTooClose (lone p) b g
+  pub all : (p : Point) → IsTooClose (lone p) b g → HasPoint r p

@@ -70,6 +70,15 @@ impl<T: Copy> List<T> {
         }
         Ok(list)
     }
+
+    /// Adds these items at the end. After `NoMemory` the list is as before.
+    pub fn extend_from_slice(&mut self, items: &[T]) -> Result<(), NoMemory>
+        ensures ok { OnOk result (self.new ≡ self.old ++ items.now) }
+        ensures err { OnErr result (self.new ≡ self.old) }
+    {
+        self.items.extend_from_slice(items)?;
+        Ok(())
+    }
 }
 
 /// A text, which contracts see as the list of its bytes.
