@@ -12,6 +12,7 @@ apart_more {X} xs i x lt is none before a b d p q r same = by (cases_lt a i)
         let k : (i + 1) + (b - (i + 1)) ≡ b = omega arith in
         let here : get_or xs a d ≡ x = ap (λ n. get_or xs n d) e ∙ get_or_default xs i d x lt ∙ sym is in
         none (b - (i + 1), omega (arith, length-drop (i + 1) xs), get_or-drop (i + 1) xs (b - (i + 1)) x ∙ ap (λ n. get_or xs n x) k ∙ get_or_default xs b x d r ∙ sym same ∙ here)
+
     by : (a < i) ⊎ (i ≤ a) → ⊥
     by (inl h) = before a b d h q r same
     by (inr h) = at (omega arith)

@@ -2,8 +2,12 @@
 #![tactic(auto)]
 
 mod checks;
+mod meaning;
 mod near;
 mod outlines;
 mod pairs;
+#[cfg(test)]
+mod tests;
 
 pub use checks::violations;
+pub use meaning::violations_are_exact;

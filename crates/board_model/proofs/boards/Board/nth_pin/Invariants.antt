@@ -6,5 +6,5 @@ use Rattle.board_model.proofs.boards.Board.nth_pin.Given as goal
 abbrev pub invariant-loop-pin : goal.invariant-loop-pin
 invariant-loop-pin l = record {
   count : l.before ≡ length (filter (λ (p : Pin). p.net.0 == l.n.0) (take l.pin-index l.pin-items));
-  few : l.before ≤ l.i
+  few : l.before ≤ l.i;
 }
