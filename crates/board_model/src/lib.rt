@@ -24,8 +24,8 @@ mod validity;
 pub use boards::Board;
 pub use commands::Command;
 pub use labels::{
-    hits_are_squares_too_close, labels_forget_shapes, labels_ignore_order, labels_say_what_hits, labels_take_shapes,
-    passable_is_left_to_the_net,
+    hits_are_squares_too_close, labels_forget_shapes, labels_ignore_order, labels_say_what_hits,
+    labels_take_shapes, passable_is_left_to_the_net,
 };
 pub use limits::{
     MAX_BLOCKS, MAX_CHARGE, MAX_CLASSES, MAX_COMMANDS, MAX_KINDS, MAX_LAYERS, MAX_MEASURE,

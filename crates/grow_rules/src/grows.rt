@@ -39,9 +39,9 @@ pub fn via_grow(board: &Board, k: KindId, c: ClassId, s: &Shape) -> Rect
         → HasPoint result p ↔ Hits (via_plane board.now.parts k c) p s.now }
     ensures bounded { IsBounded result }
 {
-    let half = board.pad(k, c);
+    let pad = board.pad(k, c);
     let gap = board.gap_to(s.layer, c, s.owner);
-    kept_away(s.area, half, gap)
+    kept_away(s.area, pad, gap)
 }
 
 /// The points whose square of this half width is too close to the area for the gap.

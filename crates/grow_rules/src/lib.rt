@@ -5,6 +5,8 @@
 mod ends;
 mod frames;
 mod grows;
+#[cfg(test)]
+mod tests;
 
 pub use frames::frame;
 pub use grows::{via_grow, wire_grow};

@@ -1,0 +1,173 @@
+ghost use Rattle.std.specs.Prelude.{◌≡◌};
+ghost use Rattle.board_model.specs.Known.{IsKnown};
+ghost use Rattle.grow_rules.specs.Given.{IsNearOrigin};
+
+use crate::{frame, via_grow, wire_grow};
+use board_model::{Board, BoardParts, Rule, Shape, ViaKind};
+use geo_rect::{ClassId, KindId, LayerId, List, NetId, NoMemory, Rect, Text};
+use std::alloc::Global;
+use std::process::Abort;
+use std::test::Fail;
+
+fn names(alloc: Global, texts: &[&str]) -> Result<List<Text>, NoMemory> {
+    let mut list = List::new(alloc);
+    for text in texts {
+        list.push(Text::from_str(alloc, text)?)?;
+    }
+    Ok(list)
+}
+
+// Two layers, two classes with different rules on each, a kind of via over both layers, and a net of
+// each class.
+fn parts_of(alloc: Global, width: i32, height: i32) -> Result<BoardParts, NoMemory> {
+    let rules = [(1, 2), (3, 5), (2, 4), (4, 3)].map(|(half, gap)| Rule { half, gap });
+    let kind = ViaKind {
+        first: LayerId(0),
+        last: LayerId(1),
+        charge: 10,
+    };
+    Ok(BoardParts {
+        name: Text::from_str(alloc, "board")?,
+        width,
+        height,
+        layers: names(alloc, &["top", "low"])?,
+        classes: names(alloc, &["thin", "wide"])?,
+        rules: List::from_slice(alloc, &rules)?,
+        kind_names: names(alloc, &["hole"])?,
+        kinds: List::from_slice(alloc, &[kind])?,
+        pads: List::from_slice(alloc, &[6, 8])?,
+        blocks: List::new(alloc),
+        net_names: names(alloc, &["a", "b"])?,
+        net_classes: List::from_slice(alloc, &[ClassId(0), ClassId(1)])?,
+        pins: List::new(alloc),
+    })
+}
+
+fn board_of(rt: &impl Abort, alloc: Global, width: i32, height: i32) -> Result<Board, NoMemory> {
+    let parts = parts_of(alloc, width, height)?;
+    assert!(rt; parts.is_board());
+    Board::build(alloc, parts)
+}
+
+fn rect_of(rt: &impl Abort, corners: [i32; 4]) -> Rect
+    ensures { IsNearOrigin result }
+{
+    let [x0, y0, x1, y1] = corners;
+    assert!(rt; -100 <= x0);
+    assert!(rt; x0 <= x1);
+    assert!(rt; x1 <= 100);
+    assert!(rt; -100 <= y0);
+    assert!(rt; y0 <= y1);
+    assert!(rt; y1 <= 100);
+    Rect::new(x0, y0, x1, y1)
+}
+
+fn shape_of(
+    rt: &impl Abort,
+    board: &Board,
+    layer: u32,
+    corners: [i32; 4],
+    net: Option<u32>,
+) -> Shape
+    ensures known { IsKnown board.now.parts result }
+    ensures near { IsNearOrigin result.area }
+    ensures layer { result.layer ≡ record { 0 = layer } }
+{
+    assert!(rt; layer < board.layers());
+    let area = rect_of(rt, corners);
+    let layer = LayerId(layer);
+    match net {
+        None => Shape {
+            area,
+            layer,
+            owner: None,
+        },
+        Some(n) => {
+            assert!(rt; n < board.nets());
+            Shape {
+                area,
+                layer,
+                owner: Some(NetId(n)),
+            }
+        }
+    }
+}
+
+const BLOCK: [i32; 4] = [18, 0, 22, 14];
+
+const PIN: [i32; 4] = [4, 9, 6, 11];
+
+#[test]
+fn grows_for_wires(rt: HostRuntime) -> Result<(), Fail> {
+    let board = board_of(&rt, rt.alloc(), 40, 20)?;
+    for (layer, class, area, net, want) in [
+        (0, 0, BLOCK, None, [16, -2, 24, 16]),
+        (0, 0, PIN, Some(0), [2, 7, 8, 13]),
+        (0, 0, PIN, Some(1), [-1, 4, 11, 16]),
+        (0, 1, PIN, Some(0), [-3, 2, 13, 18]),
+        (1, 0, BLOCK, None, [13, -5, 27, 19]),
+        (1, 0, PIN, Some(1), [-1, 4, 11, 16]),
+        (1, 1, PIN, Some(0), [-3, 2, 13, 18]),
+        (1, 1, BLOCK, None, [12, -6, 28, 20]),
+    ] {
+        let shape = shape_of(&rt, &board, layer, area, net);
+        assert!(rt; class < board.classes());
+        let found = wire_grow(&board, LayerId(layer), ClassId(class), &shape);
+        assert_eq!(rt; found, rect_of(&rt, want), "layer {layer}, class {class}");
+    }
+    Ok(())
+}
+
+#[test]
+fn grows_for_vias(rt: HostRuntime) -> Result<(), Fail> {
+    let board = board_of(&rt, rt.alloc(), 40, 20)?;
+    assert!(rt; 0 < board.kinds());
+    let kind = board.kind(KindId(0));
+    for (layer, class, area, net, want) in [
+        (0, 0, BLOCK, None, [11, -7, 29, 21]),
+        (1, 0, BLOCK, None, [9, -9, 31, 23]),
+        (0, 1, BLOCK, None, [6, -12, 34, 26]),
+        (1, 1, PIN, Some(0), [-7, -2, 17, 22]),
+    ] {
+        let shape = shape_of(&rt, &board, layer, area, net);
+        assert!(rt; class < board.classes());
+        assert!(rt; kind.first.0 <= layer);
+        assert!(rt; layer <= kind.last.0);
+        let found = via_grow(&board, KindId(0), ClassId(class), &shape);
+        assert_eq!(rt; found, rect_of(&rt, want), "layer {layer}, class {class}");
+    }
+    Ok(())
+}
+
+#[test]
+fn frames_boards(rt: HostRuntime) -> Result<(), Fail> {
+    let whole = [0, 0, 3, 2];
+    for (width, height, half, want) in [
+        (
+            1,
+            1,
+            1,
+            [[0, 0, 0, 1], [1, 0, 1, 1], [0, 0, 1, 0], [0, 1, 1, 1]],
+        ),
+        (3, 2, 5, [whole, whole, whole, whole]),
+        (
+            40,
+            20,
+            1,
+            [
+                [0, 0, 0, 20],
+                [40, 0, 40, 20],
+                [0, 0, 40, 0],
+                [0, 20, 40, 20],
+            ],
+        ),
+    ] {
+        let board = board_of(&rt, rt.alloc(), width, height)?;
+        assert!(rt; 1 <= half);
+        assert!(rt; half <= 65_535);
+        let found = frame(&board, half);
+        let want = want.map(|corners| rect_of(&rt, corners));
+        assert_eq!(rt; found, want, "{width} by {height}");
+    }
+    Ok(())
+}
