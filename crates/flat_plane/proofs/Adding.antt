@@ -1,5 +1,5 @@
 -- What a draft becomes when a piece is added.
-use Rattle.std.proofs.Common.{ℤ, ◌≤ℤ◌, ◌<ℤ◌, ◌≡◌, refl, sym, subst, ◌∙◌, List, [], ◌∷◌, ◌++◌, ◌⊎◌, inl, inr, Contains, arith}
+use Rattle.std.proofs.Common.{◌≡◌, sym, subst, ◌∙◌, List, [], ◌∷◌, ◌++◌, ◌⊎◌, inl, inr, Contains, arith}
 use Rattle.std.proofs.lemmas.Int.{ints, by_lt_z}
 use Rattle.std.proofs.lemmas.List.Elements.{Contains-append_left, Contains-append_right, Contains-append_cases}
 use Rattle.geo_rect.specs.declared.ids.Label.{Label}
@@ -10,11 +10,11 @@ use Rattle.geo_rect.specs.Plane.{columns, rows, HasPoint}
 use Rattle.plane_core.specs.declared.strips.Strip.{Strip}
 use Rattle.plane_core.specs.Choice.{IsChoice}
 use Rattle.plane_core.specs.Strips.{IsHeld, IsInOrder, Precedes}
-use Rattle.plane_core.proofs.Alike.{IsAlike, corner, low_number, runs_meet}
+use Rattle.plane_core.proofs.Alike.{corner, low_number, runs_meet}
 use Rattle.plane_core.proofs.Choices.{has_one, order_append, order_push}
 use Rattle.plane_core.proofs.Members.{has_head}
 use Rattle.plane_core.proofs.Ordered.{precedes_on}
-use Rattle.flat_plane.specs.Draft.{AreApart, IsDraft, IsJoinOf, IsRunInEachRow, Joins, KeepsPoints, StaysAfter, StaysBefore, Touch}
+use Rattle.flat_plane.specs.Draft.{AreApart, IsDraft, IsJoinOf, IsRunInEachRow, Joins, KeepsPoints, StaysAfter, StaysBefore}
 use Rattle.flat_plane.proofs.Decided.{joins_decided, precedes_decided}
 use Rattle.flat_plane.proofs.Joining.{joins_back, joins_from_alike, part_point}
 
@@ -39,11 +39,11 @@ pub record IsOld (draft : List Strip) (whole s : Strip) : Type 0 where
 origin : (draft : List Strip) (piece whole : Strip) (before after : List Strip) (s : Strip) → IsAdded draft piece whole before after → Contains (added before whole after) s → IsOld draft whole s ⊎ (whole ≡ s)
 origin draft piece whole before after s is h =
     elim (Contains-append_cases (before ++ whole ∷ []) after s h) [
-      inl k ↦ elim (Contains-append_cases before (whole ∷ []) s k) [
-        inl m ↦ inl (record { listed = is.lower.listed s m; apart = (is.lower.wanted s m).apart })
-      | inr m ↦ inr (has_one whole s m)
+      | inl k ↦ elim (Contains-append_cases before (whole ∷ []) s k) [
+        | inl m ↦ inl (record { listed = is.lower.listed s m; apart = (is.lower.wanted s m).apart })
+        | inr m ↦ inr (has_one whole s m)
       ]
-    | inr k ↦ inl (record { listed = is.upper.listed s k; apart = (is.upper.wanted s k).apart })
+      | inr k ↦ inl (record { listed = is.upper.listed s k; apart = (is.upper.wanted s k).apart })
     ]
 
 whole_listed : (whole : Strip) (before after : List Strip) → Contains (added before whole after) whole
@@ -65,8 +65,8 @@ added_apart draft piece whole before after is apart s t hs ht j =
 pub added_runs : (domain : Rect) (f : Point → Label) (draft : List Strip) (piece whole : Strip) (before after : List Strip) → IsAdded draft piece whole before after → IsDraft domain f draft → IsRunInEachRow domain f piece → (s : Strip) → Contains (added before whole after) s → IsRunInEachRow domain f s
 added_runs domain f draft piece whole before after is d r s h =
     elim (origin draft piece whole before after s is h) [
-      inl old ↦ d.runs s old.listed
-    | inr e ↦ (let P : Strip → Type 0 = λ u. IsRunInEachRow domain f u in subst P e (is.joined.runs domain f d.runs r))
+      | inl old ↦ d.runs s old.listed
+      | inr e ↦ (let P : Strip → Type 0 = λ u. IsRunInEachRow domain f u in subst P e (is.joined.runs domain f d.runs r))
     ]
 
 -- a strip that starts where another does can be joined with it
@@ -88,9 +88,9 @@ comes_after domain f s whole rs rw' stays =
     (λ from. record {
       no_higher = from;
       in_one_row = λ back.
-        by_lt_z whole.area.x0 s.area.x0
-        (λ left. left)
-        (λ right. by_lt_z s.area.x0 whole.area.x0
+          by_lt_z whole.area.x0 s.area.x0
+          (λ left. left)
+          (λ right. by_lt_z s.area.x0 whole.area.x0
           (λ less. absurd (stays.not_before (record { no_higher = back; in_one_row = λ _. less })))
           (λ more. absurd (stays.apart (same_start domain f s whole rs rw' (omega (arith, ints)) (omega (arith, ints))))));
     })
@@ -99,13 +99,13 @@ pub added_order : (domain : Rect) (f : Point → Label) (draft : List Strip) (pi
 added_order domain f draft piece whole before after is d r =
     let runs : IsRunInEachRow domain f whole = is.joined.runs domain f d.runs r in
     let last : (t : Strip) → Contains after t → Precedes whole t =
-      λ t h. comes_after domain f t whole (d.runs t (is.upper.listed t h)) runs (is.upper.wanted t h) in
+    λ t h. comes_after domain f t whole (d.runs t (is.upper.listed t h)) runs (is.upper.wanted t h) in
     order_append (before ++ whole ∷ []) after
     (order_push before whole is.lower.in_order (λ s h. (is.lower.wanted s h).before))
     is.upper.in_order
     (λ s t hs ht. elim (Contains-append_cases before (whole ∷ []) s hs) [
-      inl k ↦ precedes_on s whole t (is.lower.wanted s k).before (last t ht)
-    | inr k ↦ (let P : Strip → Type 0 = λ u. Precedes u t in subst P (has_one whole s k) (last t ht))
+      | inl k ↦ precedes_on s whole t (is.lower.wanted s k).before (last t ht)
+      | inr k ↦ (let P : Strip → Type 0 = λ u. Precedes u t in subst P (has_one whole s k) (last t ht))
     ])
 
 pub added_draft : (domain : Rect) (f : Point → Label) (draft : List Strip) (piece whole : Strip) (before after : List Strip) → IsAdded draft piece whole before after → IsDraft domain f draft → IsRunInEachRow domain f piece → IsDraft domain f (added before whole after)

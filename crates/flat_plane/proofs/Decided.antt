@@ -1,5 +1,5 @@
 -- Facts on strips that hold or do not.
-use Rattle.std.proofs.Common.{ℕ, ℤ, pos, ◌+ℤ◌, ◌≤ℤ◌, ◌<ℤ◌, ◌≡◌, refl, sym, ap, ◌⊎◌, inl, inr, Bool, true, false, nat_eq, arith}
+use Rattle.std.proofs.Common.{ℕ, ℤ, pos, ◌+ℤ◌, ◌≤ℤ◌, ◌≡◌, refl, ap, ◌⊎◌, inl, inr, arith}
 use Rattle.std.proofs.lemmas.Int.{ints, by_lt_z}
 use Rattle.std.proofs.lemmas.Bool.Decides.{eqb_tells}
 use Rattle.geo_rect.specs.declared.ids.Label.{Label}
@@ -32,8 +32,8 @@ int_decided x y =
 net_decided : (m n : NetId) → (m ≡ n) ⊎ ¬ (m ≡ n)
 net_decided m n =
     elim (eqb_tells m.0 n.0) [
-      inl h ↦ inl (let F : ℕ → NetId = λ k. record { 0 = k } in ap F h.1)
-    | inr h ↦ inr (λ e. h.1 (ap (λ (k : NetId). k.0) e))
+      | inl h ↦ inl (let F : ℕ → NetId = λ k. record { 0 = k } in ap F h.1)
+      | inr h ↦ inr (λ e. h.1 (ap (λ (k : NetId). k.0) e))
     ]
 
 one_net : (m n : NetId) → One m ≡ One n → m ≡ n
@@ -71,10 +71,10 @@ precedes_decided s t =
     by_lt_z s.area.y0 t.area.y0
     (λ lower. inl (record { no_higher = omega (arith, ints); in_one_row = λ back. absurd (omega (arith, ints)) }))
     (λ from. by_lt_z t.area.y0 s.area.y0
-      (λ higher. inr (λ p. let h = p.no_higher in omega (arith, ints)))
-      (λ to. by_lt_z s.area.x0 t.area.x0
-        (λ left. inl (record { no_higher = omega (arith, ints); in_one_row = λ back. left }))
-        (λ right. inr (λ p. let h = p.in_one_row from in omega (arith, ints)))))
+    (λ higher. inr (λ p. let h = p.no_higher in omega (arith, ints)))
+    (λ to. by_lt_z s.area.x0 t.area.x0
+    (λ left. inl (record { no_higher = omega (arith, ints); in_one_row = λ back. left }))
+    (λ right. inr (λ p. let h = p.in_one_row from in omega (arith, ints)))))
 
 common_decided : (i j : Interval) → HaveCommon i j ⊎ ¬ HaveCommon i j
 common_decided i j =

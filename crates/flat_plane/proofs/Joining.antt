@@ -1,6 +1,5 @@
 -- Joining strips of the same columns and label.
-use Rattle.std.proofs.Common.{ℤ, pos, ◌+ℤ◌, ◌≤ℤ◌, ◌<ℤ◌, ◌≡◌, refl, sym, subst, ◌∙◌, List, [], ◌∷◌, ◌++◌, ◌⊎◌, inl, inr, Contains, arith}
-use Rattle.std.specs.Int.{int_min, int_max}
+use Rattle.std.proofs.Common.{ℤ, pos, ◌+ℤ◌, ◌≡◌, refl, sym, subst, List, [], ◌∷◌, ◌++◌, ◌⊎◌, inl, inr, Contains, arith}
 use Rattle.std.proofs.lemmas.Int.{ints, clamps, by_lt_z}
 use Rattle.std.proofs.lemmas.List.Elements.{Contains-append_left, Contains-append_right, Contains-append_cases}
 use Rattle.geo_rect.specs.declared.ids.Label.{Label}
@@ -8,14 +7,12 @@ use Rattle.geo_rect.specs.declared.shapes.Interval.{Interval}
 use Rattle.geo_rect.specs.declared.shapes.Point.{Point}
 use Rattle.geo_rect.specs.declared.shapes.Rect.{Rect}
 use Rattle.geo_rect.specs.Axis.{HasNumber, LiesWithin}
-use Rattle.geo_rect.specs.Plane.{columns, rows, HasPoint}
+use Rattle.geo_rect.specs.Plane.{rows, HasPoint}
 use Rattle.plane_core.specs.declared.strips.Strip.{Strip}
-use Rattle.plane_core.specs.LocalForm.{HaveSameColumns}
-use Rattle.plane_core.specs.Strips.{IsRunInRow}
 use Rattle.plane_core.proofs.Alike.{IsAlike, alike_back, alike_on, run_alike}
 use Rattle.plane_core.proofs.Choices.{has_one}
 use Rattle.plane_core.proofs.Members.{has_head, has_none}
-use Rattle.flat_plane.specs.Draft.{AreApart, IsAbsorbed, IsHull, IsJoinOf, IsPartOf, IsRunInEachRow, IsUnion, Joins, Touch}
+use Rattle.flat_plane.specs.Draft.{IsAbsorbed, IsHull, IsJoinOf, IsPartOf, IsRunInEachRow, IsUnion, Joins, Touch}
 
 pub touch_back : (i j : Interval) → Touch i j → Touch j i
 touch_back i j t = record { first_reaches = t.second_reaches; second_reaches = t.first_reaches }
@@ -75,8 +72,8 @@ hull_number i j h v is t n =
     by_lt_z v i.low
     (λ below. inr (record { from = omega (arith, ints, clamps); to = omega (arith, ints, clamps) }))
     (λ from. by_lt_z i.high v
-      (λ above. inr (record { from = omega (arith, ints, clamps); to = omega (arith, ints, clamps) }))
-      (λ to. inl (record { from = from; to = to })))
+    (λ above. inr (record { from = omega (arith, ints, clamps); to = omega (arith, ints, clamps) }))
+    (λ to. inl (record { from = from; to = to })))
 
 -- what touches the hull of two that touch touches one of them
 hull_touch : (i j h k : Interval) → IsHull i j h → Touch i j → Touch k h → Touch k i ⊎ Touch k j
@@ -86,8 +83,8 @@ hull_touch i j h k is t n =
     by_lt_z (k.high +ℤ pos 1) i.low
     (λ below. inr (record { first_reaches = omega (arith, ints, clamps); second_reaches = omega (arith, ints, clamps) }))
     (λ from. by_lt_z (i.high +ℤ pos 1) k.low
-      (λ above. inr (record { first_reaches = omega (arith, ints, clamps); second_reaches = omega (arith, ints, clamps) }))
-      (λ to. inl (record { first_reaches = from; second_reaches = to })))
+    (λ above. inr (record { first_reaches = omega (arith, ints, clamps); second_reaches = omega (arith, ints, clamps) }))
+    (λ to. inl (record { first_reaches = from; second_reaches = to })))
 
 union_second : (s t u : Strip) → IsUnion s t u → IsPartOf t u
 union_second s t u is =
@@ -101,8 +98,8 @@ union_first s t u j is =
 union_runs : (domain : Rect) (f : Point → Label) (s t u : Strip) → Joins s t → IsUnion s t u → IsRunInEachRow domain f s → IsRunInEachRow domain f t → IsRunInEachRow domain f u
 union_runs domain f s t u j is rs rt y hy =
     elim (hull_number (rows s.area) (rows t.area) (rows u.area) y is.rows_joined j.rows_touch hy) [
-      inl h ↦ run_alike domain f s u y (part_alike s u (union_first s t u j is)) (rs y h)
-    | inr h ↦ run_alike domain f t u y (part_alike t u (union_second s t u is)) (rt y h)
+      | inl h ↦ run_alike domain f s u y (part_alike s u (union_first s t u j is)) (rs y h)
+      | inr h ↦ run_alike domain f t u y (part_alike t u (union_second s t u is)) (rt y h)
     ]
 
 union_joins : (s t u r : Strip) → Joins s t → IsUnion s t u → Joins r u → Joins r s ⊎ Joins r t
@@ -110,8 +107,8 @@ union_joins s t u r j is n =
     let tu : IsAlike t u = part_alike t u (union_second s t u is) in
     let su : IsAlike s u = part_alike s u (union_first s t u j is) in
     elim (hull_touch (rows s.area) (rows t.area) (rows u.area) (rows r.area) is.rows_joined j.rows_touch n.rows_touch) [
-      inl h ↦ inl (joins_from_alike r s (alike_on r u s (joins_alike r u n) (alike_back s u su)) h)
-    | inr h ↦ inr (joins_from_alike r t (alike_on r u t (joins_alike r u n) (alike_back t u tu)) h)
+      | inl h ↦ inl (joins_from_alike r s (alike_on r u s (joins_alike r u n) (alike_back s u su)) h)
+      | inr h ↦ inr (joins_from_alike r t (alike_on r u t (joins_alike r u n) (alike_back t u tu)) h)
     ]
 
 pub join_none : (piece : Strip) → IsJoinOf [] piece piece
@@ -131,21 +128,21 @@ join_taken : (ss : List Strip) (piece whole s u : Strip) → ((r : Strip) → Co
 join_taken ss piece whole s u apart is j un = record {
   has_piece = part_on piece whole u is.has_piece (union_second s whole u un);
   has_strips = λ r h n. elim (Contains-append_cases ss (s ∷ []) r h) [
-    inl k ↦ kept_strip ss piece whole s u r (apart r) is j un k (union_joins s whole u r j un n)
-  | inr k ↦ (let P : Strip → Type 0 = λ v. IsPartOf v u in subst P (has_one s r k) (union_first s whole u j un))
+    | inl k ↦ kept_strip ss piece whole s u r (apart r) is j un k (union_joins s whole u r j un n)
+    | inr k ↦ (let P : Strip → Type 0 = λ v. IsPartOf v u in subst P (has_one s r k) (union_first s whole u j un))
   ];
   runs = λ domain f all r.
-    union_runs domain f s whole u j un
-    (all s (Contains-append_right ss (s ∷ []) s (has_head s [])))
-    (is.runs domain f (λ t h. all t (Contains-append_left ss (s ∷ []) t h)) r);
+      union_runs domain f s whole u j un
+      (all s (Contains-append_right ss (s ∷ []) s (has_head s [])))
+      (is.runs domain f (λ t h. all t (Contains-append_left ss (s ∷ []) t h)) r);
 }
 
 join_left : (ss : List Strip) (piece whole s : Strip) → IsJoinOf ss piece whole → ¬ Joins s whole → IsJoinOf (ss ++ s ∷ []) piece whole
 join_left ss piece whole s is n = record {
   has_piece = is.has_piece;
   has_strips = λ r h j. elim (Contains-append_cases ss (s ∷ []) r h) [
-    inl k ↦ is.has_strips r k j
-  | inr k ↦ absurd (n (let P : Strip → Type 0 = λ v. Joins v whole in subst P (sym (has_one s r k)) j))
+    | inl k ↦ is.has_strips r k j
+    | inr k ↦ absurd (n (let P : Strip → Type 0 = λ v. Joins v whole in subst P (sym (has_one s r k)) j))
   ];
   runs = λ domain f all r. is.runs domain f (λ t h. all t (Contains-append_left ss (s ∷ []) t h)) r;
 }

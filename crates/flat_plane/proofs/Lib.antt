@@ -1,6 +1,13 @@
 pub mod Adding
+pub mod BandFacts
+pub mod BandRows
 pub mod Decided
+pub mod Edges
+pub mod Finish
 pub mod FromParts
 pub mod Joining
+pub mod KeptFacts
 pub mod PaintedRows
+pub mod PieceRuns
+pub mod RowsLeft
 pub mod StartDraft

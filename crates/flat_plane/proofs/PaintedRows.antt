@@ -1,6 +1,5 @@
 -- What painting leaves in a row.
-use Rattle.std.proofs.Common.{ℤ, pos, ◌-ℤ◌, ◌+ℤ◌, ◌≤ℤ◌, ◌<ℤ◌, ◌≡◌, refl, sym, subst, ◌∙◌, ◌⊎◌, inl, inr, List, Contains, arith}
-use Rattle.std.specs.Int.{int_min, int_max}
+use Rattle.std.proofs.Common.{ℤ, pos, ◌-ℤ◌, ◌+ℤ◌, ◌≤ℤ◌, ◌<ℤ◌, ◌≡◌, refl, sym, subst, ◌∙◌, ◌⊎◌, inl, inr, arith}
 use Rattle.std.proofs.lemmas.Int.{ints, clamps, by_lt_z}
 use Rattle.geo_rect.specs.declared.ids.Label.{Label}
 use Rattle.geo_rect.specs.declared.shapes.Interval.{Interval}
@@ -13,7 +12,7 @@ use Rattle.plane_core.specs.Labels.{painted}
 use Rattle.plane_core.specs.Strips.{IsRunInRow, IsStrip}
 use Rattle.plane_core.proofs.Alike.{IsAlike, run_alike}
 use Rattle.plane_core.proofs.Labelled.{painted_within, painted_elsewhere}
-use Rattle.flat_plane.specs.Draft.{IsAffected, IsRunInEachRow, Touch}
+use Rattle.flat_plane.specs.Draft.{IsAffected, IsRunInEachRow}
 use Rattle.flat_plane.specs.Painting.{IsPartAfter, IsPartBefore}
 use Rattle.flat_plane.proofs.Decided.{number_decided}
 
@@ -46,18 +45,18 @@ row_outside domain area m f g s y is n r =
 row_away : (domain area : Rect) (m : Label) (f g : Point → Label) (s : Strip) (y : ℤ) → IsRepainted area m f g → ¬ IsAffected area s.area → HasNumber (rows s.area) y → HasNumber (rows area) y → IsRunInRow domain f s y → IsRunInRow domain g s y
 row_away domain area m f g s y is n hs ha r =
     run_stays domain f g s y r (λ x a b. is.elsewhere (record { x = x; y = y }) (λ h.
-      let p = h.across.from in let q = h.across.to in
-      n (record {
-        across = record { first_reaches = omega (arith, ints); second_reaches = omega (arith, ints) };
-        up = record { number = y; in_first = ha; in_second = hs };
-      })))
+    let p = h.across.from in let q = h.across.to in
+    n (record {
+      across = record { first_reaches = omega (arith, ints); second_reaches = omega (arith, ints) };
+      up = record { number = y; in_first = ha; in_second = hs };
+    })))
 
 -- a strip that painting cannot change is a run in each of its rows still
 pub untouched_runs : (domain area : Rect) (m : Label) (f g : Point → Label) (s : Strip) → IsRepainted area m f g → ¬ IsAffected area s.area → IsStrip domain f s → IsRunInEachRow domain g s
 untouched_runs domain area m f g s is n i y hs =
     elim (number_decided (rows area) y) [
-      inl ha ↦ row_away domain area m f g s y is n hs ha (i.in_each_row y hs)
-    | inr no' ↦ row_outside domain area m f g s y is no' (i.in_each_row y hs)
+      | inl ha ↦ row_away domain area m f g s y is n hs ha (i.in_each_row y hs)
+      | inr no' ↦ row_outside domain area m f g s y is no' (i.in_each_row y hs)
     ]
 
 -- the strip with other rows
@@ -79,16 +78,16 @@ lower_runs domain area m f g s e band is i part eq =
     let l = part.low in let h = part.high in let o = s.area.y_ordered in
     let P : Strip → Type 0 = λ t. IsRunInEachRow domain g t in
     subst P (sym eq) (end_runs domain area m f g s band is i
-      (record { from = omega (arith, ints, clamps); to = omega (arith, ints, clamps) })
-      (λ y hy ha. let a = hy.to in let b = ha.from in omega (arith, ints, clamps)))
+    (record { from = omega (arith, ints, clamps); to = omega (arith, ints, clamps) })
+    (λ y hy ha. let a = hy.to in let b = ha.from in omega (arith, ints, clamps)))
 
 pub upper_runs : (domain area : Rect) (m : Label) (f g : Point → Label) (s e : Strip) (band : Interval) → IsRepainted area m f g → IsStrip domain f s → IsPartAfter (rows s.area) (rows area) band → e ≡ in_rows s band → IsRunInEachRow domain g e
 upper_runs domain area m f g s e band is i part eq =
     let l = part.low in let h = part.high in let o = s.area.y_ordered in
     let P : Strip → Type 0 = λ t. IsRunInEachRow domain g t in
     subst P (sym eq) (end_runs domain area m f g s band is i
-      (record { from = omega (arith, ints, clamps); to = omega (arith, ints, clamps) })
-      (λ y hy ha. let a = hy.from in let b = ha.to in omega (arith, ints, clamps)))
+    (record { from = omega (arith, ints, clamps); to = omega (arith, ints, clamps) })
+    (λ y hy ha. let a = hy.from in let b = ha.to in omega (arith, ints, clamps)))
 
 pub lower_has : (area : Rect) (s e : Strip) (band : Interval) (p : Point) → IsPartBefore (rows s.area) (rows area) band → e ≡ in_rows s band → HasPoint s.area p → p.y <ℤ area.y0 → HasPoint e.area p
 lower_has area s e band p part eq hp below =

@@ -1,12 +1,12 @@
 -- Drafts: lists of strips that are right in each row, and are stacked as far as they reach.
-use Rattle.std.specs.Prelude.{ℤ, pos, ◌+ℤ◌, ◌-ℤ◌, ◌≤ℤ◌, ◌≡◌, ◌⊎◌, List, Contains}
+use Rattle.std.specs.Prelude.{ℤ, pos, ◌+ℤ◌, ◌≤ℤ◌, ◌≡◌, ◌⊎◌, List, Contains}
 use Rattle.std.specs.Int.{int_min, int_max}
 use Rattle.geo_rect.specs.declared.ids.Label.{Label}
 use Rattle.geo_rect.specs.declared.shapes.Interval.{Interval}
 use Rattle.geo_rect.specs.declared.shapes.Point.{Point}
 use Rattle.geo_rect.specs.declared.shapes.Rect.{Rect}
 use Rattle.geo_rect.specs.Axis.{HasNumber, LiesWithin}
-use Rattle.geo_rect.specs.Plane.{columns, rows, HasPoint}
+use Rattle.geo_rect.specs.Plane.{columns, rows}
 use Rattle.plane_core.specs.declared.strips.Strip.{Strip}
 use Rattle.plane_core.specs.LocalForm.{HaveSameColumns}
 use Rattle.plane_core.specs.Sides.{HaveCommon}

@@ -57,27 +57,62 @@ abbrev pub IsBeyond : List Strip → Rect → ℤ → Interval → Option Strip 
 IsBeyond strips domain x band None = ¬ HasNumber (columns domain) x
 IsBeyond strips domain x band (Some s) = IsListedAt strips x band s
 
--- a band at the foot of the rows that are left: one strip to the left of the area and one to the right
-pub record IsBand (strips : List Strip) (brush : Brush) (rest : Interval) (band : Band) : Type 0 where
-  pub low : band.rows.low ≡ rest.low
-  pub high : band.rows.high ≤ℤ rest.high
+-- the strip at a point; none, if the domain does not have the point
+abbrev pub IsStripAt : List Strip → Rect → Point → Option Strip → Type 0
+IsStripAt strips domain p None = ¬ HasPoint domain p
+IsStripAt strips domain p (Some s) = Contains strips s × HasPoint s.area p
+
+-- the strip, if there is one, has this row
+abbrev pub StartsIn : ℤ → Option Strip → Type 0
+StartsIn row None = Unit {0}
+StartsIn row (Some s) = HasNumber (rows s.area) row
+
+-- the strip, if there is one, has all these rows
+abbrev pub IsCapped : Interval → Option Strip → Type 0
+IsCapped band None = Unit {0}
+IsCapped band (Some s) = LiesWithin band (rows s.area)
+
+-- the strip, if there is one, starts at the latest in this column
+abbrev pub StartsBy : ℤ → Option Strip → Type 0
+StartsBy x None = Unit {0}
+StartsBy x (Some s) = s.area.x0 ≤ℤ x
+
+-- the strip, if there is one, ends at the earliest in this column
+abbrev pub EndsFrom : ℤ → Option Strip → Type 0
+EndsFrom x None = Unit {0}
+EndsFrom x (Some s) = x ≤ℤ s.area.x1
+
+-- where a run of the label starts that has this column: further left, if the strip there has the label
+abbrev pub IsLeftEnd : ℤ → Label → Option Strip → ℤ → Type 0
+IsLeftEnd x label None end = end ≡ x
+IsLeftEnd x label (Some s) end = (s.label ≡ label → end ≡ s.area.x0) × (¬ (s.label ≡ label) → end ≡ x)
+
+-- where a run of the label ends that has this column: further right, if the strip there has the label
+abbrev pub IsRightEnd : ℤ → Label → Option Strip → ℤ → Type 0
+IsRightEnd x label None end = end ≡ x
+IsRightEnd x label (Some s) end = (s.label ≡ label → end ≡ s.area.x1) × (¬ (s.label ≡ label) → end ≡ x)
+
+-- rows of the area with the strips to its left and to its right, and the new label's columns
+pub record IsBand (strips : List Strip) (brush : Brush) (band : Band) : Type 0 where
+  pub rows_inside : LiesWithin band.rows (rows brush.area)
   pub left : IsBeyond strips brush.domain (brush.area.x0 -ℤ pos 1) band.rows band.left
   pub right : IsBeyond strips brush.domain (brush.area.x1 +ℤ pos 1) band.rows band.right
+  pub left_end : IsLeftEnd brush.area.x0 brush.label band.left band.across.low
+  pub right_end : IsRightEnd brush.area.x1 brush.label band.right band.across.high
 
--- the lowest column of a run of the label that has the columns and may go on into the strip to the left
-abbrev pub IsLeftEnd : Interval → Label → Option Strip → ℤ → Type 0
-IsLeftEnd across label None end = end ≡ across.low
-IsLeftEnd across label (Some s) end = (s.label ≡ label → end ≡ s.area.x0) × (¬ (s.label ≡ label) → end ≡ across.low)
+-- in these rows each point of the strip to the left of the area is held, unless the strip has the label
+abbrev pub HoldsLeft : Brush → Interval → Option Strip → List Strip → Type 0
+HoldsLeft brush band None new = Unit {0}
+HoldsLeft brush band (Some s) new = ¬ (s.label ≡ brush.label) → (p : Point) → HasPoint s.area p → p.x <ℤ brush.area.x0 → HasNumber band p.y → IsHeld new p
 
--- the highest column of a run of the label that has the columns and may go on into the strip to the right
-abbrev pub IsRightEnd : Interval → Label → Option Strip → ℤ → Type 0
-IsRightEnd across label None end = end ≡ across.high
-IsRightEnd across label (Some s) end = (s.label ≡ label → end ≡ s.area.x1) × (¬ (s.label ≡ label) → end ≡ across.high)
+-- in these rows each point of the strip to the right of the area is held, unless the strip has the label
+abbrev pub HoldsRight : Brush → Interval → Option Strip → List Strip → Type 0
+HoldsRight brush band None new = Unit {0}
+HoldsRight brush band (Some s) new = ¬ (s.label ≡ brush.label) → (p : Point) → HasPoint s.area p → brush.area.x1 <ℤ p.x → HasNumber band p.y → IsHeld new p
 
--- the run of the label that has the columns, with what the strips beside them add
-pub record IsGrown (across : Interval) (label : Label) (left right : Option Strip) (grown : Interval) : Type 0 where
-  pub left_end : IsLeftEnd across label left grown.low
-  pub right_end : IsRightEnd across label right grown.high
+-- in these rows each point of the new label's columns is held
+abbrev pub HoldsMiddle : Band → List Strip → Type 0
+HoldsMiddle band new = (p : Point) → HasNumber band.across p.x → HasNumber band.rows p.y → IsHeld new p
 
 -- each point of the domain in these rows is held
 abbrev pub HoldsRows : Rect → Interval → List Strip → Type 0

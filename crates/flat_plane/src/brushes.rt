@@ -10,10 +10,11 @@ pub struct Brush {
 }
 
 /// Rows of the area in which one strip lies to its left and one to its right, where the domain
-/// goes on there.
+/// goes on there. `across` are the columns of the new label's run in these rows.
 #[derive(Clone, Copy)]
 pub struct Band {
     pub rows: Interval,
+    pub across: Interval,
     pub left: Option<Strip>,
     pub right: Option<Strip>,
 }

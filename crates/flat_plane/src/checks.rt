@@ -2,14 +2,12 @@
 ghost use Rattle.std.specs.Prelude.{◌≡◌, ◌↔◌, ◌+ℤ◌, ◌≤ℤ◌, pos, IsTrue};
 ghost use Rattle.geo_rect.specs.Axis.{HasNumber};
 ghost use Rattle.geo_rect.specs.Plane.{columns, rows, HasPoint};
-ghost use Rattle.plane_core.specs.Choice.{Meets};
 ghost use Rattle.plane_core.specs.LocalForm.{HaveSameColumns};
-ghost use Rattle.plane_core.specs.Sides.{HaveCommon};
 ghost use Rattle.plane_core.specs.Strips.{Precedes};
 ghost use Rattle.flat_plane.specs.Draft.{IsAffected, Joins, Touch};
 
 use geo_rect::{Interval, Label, Point, Rect};
-use plane_core::Strip;
+use plane_core::{Strip, have_common};
 
 /// Whether the point lies in the columns of `r`.
 fn has_column(r: Rect, p: Point) -> bool
@@ -50,32 +48,6 @@ pub fn has_point(r: Rect, p: Point) -> bool
     true
 }
 
-/// Whether the intervals have a number in common.
-fn have_common(i: Interval, j: Interval) -> bool
-    ensures { IsTrue result ↔ HaveCommon i j }
-{
-    if i.low > j.high {
-        return false;
-    }
-    if j.low > i.high {
-        return false;
-    }
-    true
-}
-
-/// Whether the rectangles have a point in common.
-pub fn meets(a: Rect, b: Rect) -> bool
-    ensures { IsTrue result ↔ Meets a b }
-{
-    if !have_common(a.columns(), b.columns()) {
-        return false;
-    }
-    if !have_common(a.rows(), b.rows()) {
-        return false;
-    }
-    true
-}
-
 /// Whether `j` starts at the latest right after the end of `i`.
 fn reaches(i: Interval, j: Interval) -> bool
     ensures { IsTrue result ↔ (j.low ≤ℤ (i.high +ℤ pos 1)) }
@@ -102,7 +74,7 @@ fn touch(i: Interval, j: Interval) -> bool
     true
 }
 
-fn are_same_label(a: Label, b: Label) -> bool
+pub fn are_same_label(a: Label, b: Label) -> bool
     ensures { IsTrue result ↔ (a ≡ b) }
 {
     a == b

@@ -1,8 +1,17 @@
 //! A plane that keeps its strips as one sorted list: plain, and the measure of faster ones.
 #![tactic(auto)]
 
-pub mod brushes;
-pub mod checks;
-pub mod drafts;
-pub mod outside;
-pub mod parts;
+mod bands;
+mod brushes;
+mod checks;
+mod drafts;
+mod outside;
+mod parts;
+mod pieces;
+mod planes;
+mod queries;
+
+pub use planes::FlatPlane;
+
+#[cfg(test)]
+mod tests;

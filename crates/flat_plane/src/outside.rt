@@ -41,7 +41,13 @@ fn untouched(alloc: Global, strips: &[Strip], area: Rect) -> Result<List<Strip>,
 }
 
 /// Adds what of the strip lies below the area.
-fn add_lower_end(alloc: Global, strips: &[Strip], brush: Brush, draft: List<Strip>, strip: Strip) -> Result<List<Strip>, NoMemory>
+fn add_lower_end(
+    alloc: Global,
+    strips: &[Strip],
+    brush: Brush,
+    draft: List<Strip>,
+    strip: Strip,
+) -> Result<List<Strip>, NoMemory>
     requires can_paint { CanPaint strips.now brush }
     requires listed { Contains strips.now strip }
     requires draft { IsDraftOf strips.now brush draft }
@@ -57,7 +63,13 @@ fn add_lower_end(alloc: Global, strips: &[Strip], brush: Brush, draft: List<Stri
 }
 
 /// Adds what of the strip lies above the area.
-fn add_upper_end(alloc: Global, strips: &[Strip], brush: Brush, draft: List<Strip>, strip: Strip) -> Result<List<Strip>, NoMemory>
+fn add_upper_end(
+    alloc: Global,
+    strips: &[Strip],
+    brush: Brush,
+    draft: List<Strip>,
+    strip: Strip,
+) -> Result<List<Strip>, NoMemory>
     requires can_paint { CanPaint strips.now brush }
     requires listed { Contains strips.now strip }
     requires draft { IsDraftOf strips.now brush draft }
@@ -73,7 +85,13 @@ fn add_upper_end(alloc: Global, strips: &[Strip], brush: Brush, draft: List<Stri
 }
 
 /// Adds what of the strip lies below or above the area, if painting can change the strip.
-fn add_ends(alloc: Global, strips: &[Strip], brush: Brush, draft: List<Strip>, strip: Strip) -> Result<List<Strip>, NoMemory>
+fn add_ends(
+    alloc: Global,
+    strips: &[Strip],
+    brush: Brush,
+    draft: List<Strip>,
+    strip: Strip,
+) -> Result<List<Strip>, NoMemory>
     requires can_paint { CanPaint strips.now brush }
     requires listed { Contains strips.now strip }
     requires draft { IsDraftOf strips.now brush draft }

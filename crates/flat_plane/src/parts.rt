@@ -3,7 +3,7 @@ ghost use Rattle.std.specs.Prelude.{◌≡◌, ◌<ℤ◌, ◌≤ℤ◌, ◌+ℤ
 ghost use Rattle.geo_rect.specs.Plane.{columns, rect_of};
 ghost use Rattle.flat_plane.specs.Painting.{IsPartAfter, IsPartBefore};
 
-use geo_rect::{Interval, Rect};
+use geo_rect::{Interval, Label, Rect};
 use plane_core::Strip;
 
 /// The numbers of `i` that come before those of `j`.
@@ -35,5 +35,15 @@ pub fn with_rows(strip: Strip, rows: Interval) -> Strip
     Strip {
         area: Rect::of(strip.area.columns(), rows),
         label: strip.label,
+    }
+}
+
+/// The strip of these columns, rows and label.
+pub fn strip_of(across: Interval, up: Interval, label: Label) -> Strip
+    ensures { result ≡ record { area = rect_of across up; label = label } }
+{
+    Strip {
+        area: Rect::of(across, up),
+        label,
     }
 }

@@ -1,5 +1,5 @@
 -- Strips of the same columns and label, and what shares a point with a strip.
-use Rattle.std.proofs.Common.{ℤ, pos, ◌-ℤ◌, ◌+ℤ◌, ◌≤ℤ◌, ◌<ℤ◌, ◌≡◌, sym, subst, ap, ◌∙◌, arith}
+use Rattle.std.proofs.Common.{ℤ, pos, ◌-ℤ◌, ◌+ℤ◌, ◌≤ℤ◌, ◌≡◌, sym, subst, ap, ◌∙◌, arith}
 use Rattle.std.proofs.lemmas.Int.{ints, by_lt_z}
 use Rattle.geo_rect.specs.declared.ids.Label.{Label}
 use Rattle.geo_rect.specs.declared.shapes.Interval.{Interval}
@@ -45,10 +45,10 @@ pub run_alike : (domain : Rect) (f : Point → Label) (s t : Strip) (y : ℤ) �
 run_alike domain f s t y a r = record {
   in_domain = r.in_domain;
   run =
-    let at : ℤ → Label = λ x. f (record { x = x; y = y }) in
-    let P : Label → Type 0 = λ m. IsRun (columns domain) at (columns s.area) m in
-    let Q : Interval → Type 0 = λ i. IsRun (columns domain) at i t.label in
-    subst Q (columns_alike s t a) (subst P a.same_label r.run);
+      let at : ℤ → Label = λ x. f (record { x = x; y = y }) in
+      let P : Label → Type 0 = λ m. IsRun (columns domain) at (columns s.area) m in
+      let Q : Interval → Type 0 = λ i. IsRun (columns domain) at i t.label in
+      subst Q (columns_alike s t a) (subst P a.same_label r.run);
 }
 
 -- two runs of a row that share a point are alike
@@ -89,18 +89,18 @@ starts_no_lower : (domain : Rect) (f : Point → Label) (s t : Strip) (p : Point
 starts_no_lower domain f s t p a is it hs ht =
     by_lt_z s.area.y0 t.area.y0
     (λ less.
-      let below : HasNumber (rows s.area) (t.area.y0 -ℤ pos 1) =
-        (let q = ht.up.from in let r = hs.up.to in record { from = omega (arith, ints); to = omega (arith, ints) }) in
-      absurd (it.ends_below (run_alike domain f s t _ a (is.in_each_row _ below))))
+    let below : HasNumber (rows s.area) (t.area.y0 -ℤ pos 1) =
+    (let q = ht.up.from in let r = hs.up.to in record { from = omega (arith, ints); to = omega (arith, ints) }) in
+    absurd (it.ends_below (run_alike domain f s t _ a (is.in_each_row _ below))))
     (λ h. h)
 
 ends_no_higher : (domain : Rect) (f : Point → Label) (s t : Strip) (p : Point) → IsAlike s t → IsStrip domain f s → IsStrip domain f t → HasPoint s.area p → HasPoint t.area p → s.area.y1 ≤ℤ t.area.y1
 ends_no_higher domain f s t p a is it hs ht =
     by_lt_z t.area.y1 s.area.y1
     (λ less.
-      let above : HasNumber (rows s.area) (t.area.y1 +ℤ pos 1) =
-        (let q = ht.up.to in let r = hs.up.from in record { from = omega (arith, ints); to = omega (arith, ints) }) in
-      absurd (it.ends_above (run_alike domain f s t _ a (is.in_each_row _ above))))
+    let above : HasNumber (rows s.area) (t.area.y1 +ℤ pos 1) =
+    (let q = ht.up.to in let r = hs.up.from in record { from = omega (arith, ints); to = omega (arith, ints) }) in
+    absurd (it.ends_above (run_alike domain f s t _ a (is.in_each_row _ above))))
     (λ h. h)
 
 same_rows : (domain : Rect) (f : Point → Label) (s t : Strip) (p : Point) → IsAlike s t → IsStrip domain f s → IsStrip domain f t → HasPoint s.area p → HasPoint t.area p → rows s.area ≡ rows t.area

@@ -1,11 +1,10 @@
 -- The labels that strips give, and labellings that agree on the domain.
-use Rattle.std.proofs.Common.{ℤ, pos, ◌-ℤ◌, ◌+ℤ◌, ◌≤ℤ◌, ◌≡◌, refl, sym, subst, ◌∙◌, Bool, true, false, ◌&&◌, ◌⊎◌, inl, inr, List, [], ◌∷◌, Contains, if◌then◌else◌, arith}
+use Rattle.std.proofs.Common.{ℤ, pos, ◌-ℤ◌, ◌+ℤ◌, ◌≤ℤ◌, ◌≡◌, refl, sym, subst, ◌∙◌, Bool, true, false, ◌⊎◌, inl, inr, List, [], ◌∷◌, Contains, if◌then◌else◌, arith}
 use Rattle.std.specs.Prelude.{int_le}
 use Rattle.std.specs.Bool.{Decides}
 use Rattle.std.proofs.lemmas.Bool.Decides.{Decides-and, Decides-like, not_from_Decides}
 use Rattle.std.proofs.lemmas.Int.{ints}
 use Rattle.geo_rect.specs.declared.ids.Label.{Label}
-use Rattle.geo_rect.specs.declared.ids.Label.TheVariants.{Free}
 use Rattle.geo_rect.specs.declared.shapes.Interval.{Interval}
 use Rattle.geo_rect.specs.declared.shapes.Point.{Point}
 use Rattle.geo_rect.specs.declared.shapes.Rect.{Rect}
@@ -13,7 +12,7 @@ use Rattle.geo_rect.specs.Axis.{HasNumber}
 use Rattle.geo_rect.specs.Plane.{columns, rows, HasPoint}
 use Rattle.plane_core.specs.declared.strips.Strip.{Strip}
 use Rattle.plane_core.specs.Labels.{has_number, has_point, label_of, painted, IsPainted, IsPlane}
-use Rattle.plane_core.specs.Strips.{AreStrips, IsHeld, IsRun, IsRunInRow, IsStrip}
+use Rattle.plane_core.specs.Strips.{AreStrips, IsHeld, IsRunInRow}
 use Rattle.plane_core.proofs.Local.{strip_labels}
 use Rattle.plane_core.proofs.Runs.{within_has}
 use Rattle.plane_core.proofs.Members.{has_cases, has_none, has_head, has_tail}
@@ -58,8 +57,8 @@ painted_elsewhere f area m p n =
 pub held_by_rest : (s : Strip) (ss : List Strip) (p : Point) → ¬ HasPoint s.area p → IsHeld (s ∷ ss) p → IsHeld ss p
 held_by_rest s ss p n h =
     elim (has_cases s ss h.by h.is_listed) [
-      inl e ↦ absurd (n (let P : Strip → Type 0 = λ t. HasPoint t.area p in subst P (sym e) h.has_point))
-    | inr k ↦ record { by = h.by; is_listed = k; has_point = h.has_point }
+      | inl e ↦ absurd (n (let P : Strip → Type 0 = λ t. HasPoint t.area p in subst P (sym e) h.has_point))
+      | inr k ↦ record { by = h.by; is_listed = k; has_point = h.has_point }
     ]
 
 label_cases : (f : Point → Label) (s : Strip) (ss : List Strip) (p : Point) → (HasPoint s.area p → f p ≡ s.label) → (¬ HasPoint s.area p → label_of ss p ≡ f p) → (has_point s.area p ≡ true) ⊎ (has_point s.area p ≡ false) → label_of (s ∷ ss) p ≡ f p

@@ -1,14 +1,14 @@
 -- The local form is the definition.
-use Rattle.std.proofs.Common.{ℤ, pos, ◌-ℤ◌, ◌+ℤ◌, ◌≤ℤ◌, ◌<ℤ◌, ◌≡◌, ◌≢◌, sym, subst, ◌∙◌, List, Contains, arith}
+use Rattle.std.proofs.Common.{ℤ, pos, ◌-ℤ◌, ◌+ℤ◌, ◌≤ℤ◌, ◌≡◌, ◌≢◌, sym, subst, ◌∙◌, List, Contains, arith}
 use Rattle.std.proofs.lemmas.Int.{ints, by_lt_z}
 use Rattle.geo_rect.specs.declared.ids.Label.{Label}
 use Rattle.geo_rect.specs.declared.shapes.Point.{Point}
 use Rattle.geo_rect.specs.declared.shapes.Rect.{Rect}
-use Rattle.geo_rect.specs.Axis.{HasNumber, LiesWithin}
+use Rattle.geo_rect.specs.Axis.{HasNumber}
 use Rattle.geo_rect.specs.Plane.{columns, rows, HasPoint, LiesIn}
 use Rattle.plane_core.specs.declared.strips.Strip.{Strip}
-use Rattle.plane_core.specs.LocalForm.{HaveSameColumns, IsSideDefect, IsStackDefect, HasLocalForm}
-use Rattle.plane_core.specs.Strips.{AreStrips, IsHeld, IsRun, IsRunInRow, IsStrip}
+use Rattle.plane_core.specs.LocalForm.{IsSideDefect, IsStackDefect, HasLocalForm}
+use Rattle.plane_core.specs.Strips.{AreStrips, IsHeld, IsRunInRow, IsStrip}
 use Rattle.plane_core.proofs.Alike.{IsAlike, alike_back, run_alike, runs_meet, low_number, high_number, strips_meet}
 use Rattle.plane_core.proofs.Runs.{within_has}
 
@@ -64,13 +64,13 @@ left_end domain f ss s y l hs hy dy dx e =
     let labels : t.label ≡ s.label = sym (l.labelled t h.is_listed p h.has_point) ∙ e in
     let qs : HasPoint s.area q = record { across = low_number (columns s.area); up = hy } in
     let ends : t.area.x1 ≤ℤ (s.area.x0 -ℤ pos 1) =
-      by_lt_z (s.area.x0 -ℤ pos 1) t.area.x1
-      (λ more.
-        let from = h.has_point.across.from in
-        let qt : HasPoint t.area q = record { across = record { from = omega (arith, ints); to = omega (arith, ints) }; up = h.has_point.up } in
-        let back : HasPoint s.area p = same_as domain f ss s t q l hs h.is_listed qs qt p h.has_point in
-        let b = back.across.from in absurd (omega (arith, ints)))
-      (λ k. k) in
+    by_lt_z (s.area.x0 -ℤ pos 1) t.area.x1
+    (λ more.
+    let from = h.has_point.across.from in
+    let qt : HasPoint t.area q = record { across = record { from = omega (arith, ints); to = omega (arith, ints) }; up = h.has_point.up } in
+    let back : HasPoint s.area p = same_as domain f ss s t q l hs h.is_listed qs qt p h.has_point in
+    let b = back.across.from in absurd (omega (arith, ints)))
+    (λ k. k) in
     let reaches = h.has_point.across.to in
     l.no_side_defect t s h.is_listed hs (record { same_label = labels; row = y; row_of_first = h.has_point.up; row_of_second = hy; touch = omega (arith, ints) })
 
@@ -83,13 +83,13 @@ right_end domain f ss s y l hs hy dy dx e =
     let labels : s.label ≡ t.label = sym e ∙ l.labelled t h.is_listed p h.has_point in
     let qs : HasPoint s.area q = record { across = high_number (columns s.area); up = hy } in
     let starts : (s.area.x1 +ℤ pos 1) ≤ℤ t.area.x0 =
-      by_lt_z t.area.x0 (s.area.x1 +ℤ pos 1)
-      (λ more.
-        let to = h.has_point.across.to in
-        let qt : HasPoint t.area q = record { across = record { from = omega (arith, ints); to = omega (arith, ints) }; up = h.has_point.up } in
-        let back : HasPoint s.area p = same_as domain f ss s t q l hs h.is_listed qs qt p h.has_point in
-        let b = back.across.to in absurd (omega (arith, ints)))
-      (λ k. k) in
+    by_lt_z t.area.x0 (s.area.x1 +ℤ pos 1)
+    (λ more.
+    let to = h.has_point.across.to in
+    let qt : HasPoint t.area q = record { across = record { from = omega (arith, ints); to = omega (arith, ints) }; up = h.has_point.up } in
+    let back : HasPoint s.area p = same_as domain f ss s t q l hs h.is_listed qs qt p h.has_point in
+    let b = back.across.to in absurd (omega (arith, ints)))
+    (λ k. k) in
     let reaches = h.has_point.across.from in
     l.no_side_defect s t hs h.is_listed (record { same_label = labels; row = y; row_of_first = hy; row_of_second = h.has_point.up; touch = omega (arith, ints) })
 
@@ -118,13 +118,13 @@ bottom_end domain f ss s l hs r =
     let a : IsAlike t s = runs_meet domain f t s p rt r h.has_point.across first in
     let qs : HasPoint s.area q = record { across = first; up = low_number (rows s.area) } in
     let ends : t.area.y1 ≤ℤ (s.area.y0 -ℤ pos 1) =
-      by_lt_z (s.area.y0 -ℤ pos 1) t.area.y1
-      (λ more.
-        let from = h.has_point.up.from in
-        let qt : HasPoint t.area q = record { across = h.has_point.across; up = record { from = omega (arith, ints); to = omega (arith, ints) } } in
-        let back : HasPoint s.area p = same_as domain f ss s t q l hs h.is_listed qs qt p h.has_point in
-        let b = back.up.from in absurd (omega (arith, ints)))
-      (λ k. k) in
+    by_lt_z (s.area.y0 -ℤ pos 1) t.area.y1
+    (λ more.
+    let from = h.has_point.up.from in
+    let qt : HasPoint t.area q = record { across = h.has_point.across; up = record { from = omega (arith, ints); to = omega (arith, ints) } } in
+    let back : HasPoint s.area p = same_as domain f ss s t q l hs h.is_listed qs qt p h.has_point in
+    let b = back.up.from in absurd (omega (arith, ints)))
+    (λ k. k) in
     let reaches = h.has_point.up.to in
     l.no_stack_defect t s h.is_listed hs (record { same_label = a.same_label; same_columns = a.same_columns; touch = omega (arith, ints) })
 
@@ -139,13 +139,13 @@ top_end domain f ss s l hs r =
     let a : IsAlike s t = runs_meet domain f s t p r rt first h.has_point.across in
     let qs : HasPoint s.area q = record { across = first; up = high_number (rows s.area) } in
     let starts : (s.area.y1 +ℤ pos 1) ≤ℤ t.area.y0 =
-      by_lt_z t.area.y0 (s.area.y1 +ℤ pos 1)
-      (λ more.
-        let to = h.has_point.up.to in
-        let qt : HasPoint t.area q = record { across = h.has_point.across; up = record { from = omega (arith, ints); to = omega (arith, ints) } } in
-        let back : HasPoint s.area p = same_as domain f ss s t q l hs h.is_listed qs qt p h.has_point in
-        let b = back.up.to in absurd (omega (arith, ints)))
-      (λ k. k) in
+    by_lt_z t.area.y0 (s.area.y1 +ℤ pos 1)
+    (λ more.
+    let to = h.has_point.up.to in
+    let qt : HasPoint t.area q = record { across = h.has_point.across; up = record { from = omega (arith, ints); to = omega (arith, ints) } } in
+    let back : HasPoint s.area p = same_as domain f ss s t q l hs h.is_listed qs qt p h.has_point in
+    let b = back.up.to in absurd (omega (arith, ints)))
+    (λ k. k) in
     let reaches = h.has_point.up.from in
     l.no_stack_defect s t hs h.is_listed (record { same_label = a.same_label; same_columns = a.same_columns; touch = omega (arith, ints) })
 

@@ -1,5 +1,5 @@
 -- What a list contains, by its first item and the rest.
-use Rattle.std.proofs.Common.{ℕ, zero, suc, ◌<◌, ◌≡◌, refl, List, [], ◌∷◌, ◌⊎◌, inl, inr, length, Contains, arith}
+use Rattle.std.proofs.Common.{zero, suc, ◌<◌, ◌≡◌, refl, List, [], ◌∷◌, ◌⊎◌, inl, inr, Contains, arith}
 
 pub has_head : {A : Type 0} (x : A) (xs : List A) → Contains (x ∷ xs) x
 has_head x xs = (0, omega arith, refl)

@@ -15,9 +15,9 @@ pub precedes_on : (s t u : Strip) → Precedes s t → Precedes t u → Precedes
 precedes_on s t u p q = record {
   no_higher = let h = p.no_higher in let k = q.no_higher in omega (arith, ints);
   in_one_row = λ back.
-    let h = p.no_higher in let k = q.no_higher in
-    let a = p.in_one_row (omega (arith, ints)) in let b = q.in_one_row (omega (arith, ints)) in
-    omega (arith, ints);
+      let h = p.no_higher in let k = q.no_higher in
+      let a = p.in_one_row (omega (arith, ints)) in let b = q.in_one_row (omega (arith, ints)) in
+      omega (arith, ints);
 }
 
 -- the first of two ordered lists with the same members is one strip
@@ -43,6 +43,6 @@ same_members (s ∷ ss) (t ∷ ts) o q there back =
     let as_first : (u : Strip) → (t ≡ u) ⊎ Contains ts u → (s ≡ u) ⊎ Contains ts u = subst P first (λ u c. c) in
     let as_second : (u : Strip) → (s ≡ u) ⊎ Contains ss u → (t ≡ u) ⊎ Contains ss u = subst Q (sym first) (λ u c. c) in
     let rest : ss ≡ ts = same_members ss ts o.1 q.1
-      (λ u h. follows s u ss ts o.0 h (as_first u (has_cases t ts u (there u (has_tail s ss u h)))))
-      (λ u h. follows t u ts ss q.0 h (as_second u (has_cases s ss u (back u (has_tail t ts u h))))) in
+    (λ u h. follows s u ss ts o.0 h (as_first u (has_cases t ts u (there u (has_tail s ss u h)))))
+    (λ u h. follows t u ts ss q.0 h (as_second u (has_cases s ss u (back u (has_tail t ts u h))))) in
     ap (λ v. v ∷ ss) first ∙ ap (λ vs. t ∷ vs) rest

@@ -1,5 +1,5 @@
 -- One row: two maximal runs that share a number are one.
-use Rattle.std.proofs.Common.{ℤ, pos, ◌-ℤ◌, ◌+ℤ◌, ◌≤ℤ◌, ◌<ℤ◌, ◌≡◌, sym, ◌∙◌, arith}
+use Rattle.std.proofs.Common.{ℤ, pos, ◌-ℤ◌, ◌+ℤ◌, ◌≤ℤ◌, ◌≡◌, sym, ◌∙◌, arith}
 use Rattle.std.proofs.lemmas.Int.{ints, by_lt_z}
 use Rattle.geo_rect.specs.declared.ids.Label.{Label}
 use Rattle.geo_rect.specs.declared.shapes.Interval.{Interval}
@@ -16,16 +16,16 @@ starts_no_later : (d : Interval) (f : ℤ → Label) (a b : Interval) (m : Label
 starts_no_later d f a b m x ra rb ha hb =
     by_lt_z a.low b.low
     (λ less.
-      let before : HasNumber a (b.low -ℤ pos 1) = (let p = hb.from in let q = ha.to in record { from = omega (arith, ints); to = omega (arith, ints) }) in
-      absurd (rb.ends_left (within_has a d _ ra.inside before) (ra.same _ before)))
+    let before : HasNumber a (b.low -ℤ pos 1) = (let p = hb.from in let q = ha.to in record { from = omega (arith, ints); to = omega (arith, ints) }) in
+    absurd (rb.ends_left (within_has a d _ ra.inside before) (ra.same _ before)))
     (λ h. h)
 
 ends_no_sooner : (d : Interval) (f : ℤ → Label) (a b : Interval) (m : Label) (x : ℤ) → IsRun d f a m → IsRun d f b m → HasNumber a x → HasNumber b x → a.high ≤ℤ b.high
 ends_no_sooner d f a b m x ra rb ha hb =
     by_lt_z b.high a.high
     (λ less.
-      let after : HasNumber a (b.high +ℤ pos 1) = (let p = hb.to in let q = ha.from in record { from = omega (arith, ints); to = omega (arith, ints) }) in
-      absurd (rb.ends_right (within_has a d _ ra.inside after) (ra.same _ after)))
+    let after : HasNumber a (b.high +ℤ pos 1) = (let p = hb.to in let q = ha.from in record { from = omega (arith, ints); to = omega (arith, ints) }) in
+    absurd (rb.ends_right (within_has a d _ ra.inside after) (ra.same _ after)))
     (λ h. h)
 
 pub run_labels : (d : Interval) (f : ℤ → Label) (a b : Interval) (m n : Label) (x : ℤ) → IsRun d f a m → IsRun d f b n → HasNumber a x → HasNumber b x → m ≡ n

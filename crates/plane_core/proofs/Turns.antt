@@ -1,5 +1,5 @@
 -- A point lies in a rectangle exactly when the turned point lies in the turned rectangle.
-use Rattle.std.proofs.Common.{ℤ, pos, ◌-ℤ◌, ◌≤ℤ◌, ◌≡◌, ◌↔◌, arith}
+use Rattle.std.proofs.Common.{ℤ, pos, ◌-ℤ◌, ◌↔◌, arith}
 use Rattle.std.proofs.lemmas.Int.{ints}
 use Rattle.geo_rect.specs.declared.shapes.Interval.{Interval}
 use Rattle.geo_rect.specs.declared.shapes.Point.{Point}
@@ -19,9 +19,11 @@ has_mirrored i v h = let p = h.from in let q = h.to in record { from = omega (ar
 pub points_turn : (side : Side) (r : Rect) (p : Point) → HasPoint r p ↔ HasPoint (turned side r) (turned_point side p)
 points_turn Left r p = (λ h. h, λ h. h)
 points_turn Below r p = (λ h. record { across = h.up; up = h.across }, λ h. record { across = h.up; up = h.across })
-points_turn Right r p =
-    (λ h. record { across = mirrored_has (columns r) p.x h.across; up = mirrored_has (rows r) p.y h.up },
-      λ h. record { across = has_mirrored (columns r) p.x h.across; up = has_mirrored (rows r) p.y h.up })
-points_turn Above r p =
-    (λ h. record { across = mirrored_has (rows r) p.y h.up; up = mirrored_has (columns r) p.x h.across },
-      λ h. record { across = has_mirrored (columns r) p.x h.up; up = has_mirrored (rows r) p.y h.across })
+points_turn Right r p = (
+  λ h. record { across = mirrored_has (columns r) p.x h.across; up = mirrored_has (rows r) p.y h.up },
+  λ h. record { across = has_mirrored (columns r) p.x h.across; up = has_mirrored (rows r) p.y h.up },
+)
+points_turn Above r p = (
+  λ h. record { across = mirrored_has (rows r) p.y h.up; up = mirrored_has (columns r) p.x h.across },
+  λ h. record { across = has_mirrored (columns r) p.x h.up; up = has_mirrored (rows r) p.y h.across },
+)

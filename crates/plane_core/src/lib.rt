@@ -4,12 +4,19 @@
 #![tactic(auto)]
 
 mod laws;
+mod overlaps;
 mod planes;
 mod sides;
 mod strips;
 
-pub use laws::{each_strip_is_listed, local_form_is_enough, one_list_of_strips};
-pub use laws::{points_turn_with_rectangles, strips_give_labels, strips_have_local_form};
+pub use laws::{
+    each_strip_is_listed, local_form_is_enough, one_list_of_strips, points_turn_with_rectangles,
+    strips_give_labels, strips_have_local_form,
+};
+pub use overlaps::{have_common, meets};
 pub use planes::Plane;
 pub use sides::Side;
 pub use strips::{Strip, Strips};
+
+#[cfg(test)]
+mod tests;

@@ -1,8 +1,9 @@
 ghost use Rattle.std.specs.Prelude.{◌≡◌, ◌↔◌, ◌-ℤ◌, pos, IsTrue};
 ghost use Rattle.geo_rect.specs.Axis.{HasNumber};
 ghost use Rattle.plane_core.specs.Labels.{IsSmall, IsWithinReach};
-ghost use Rattle.plane_core.specs.Sides.{mirrored, turned, HaveCommon, IsLeftOf, IsBeside};
+ghost use Rattle.plane_core.specs.Sides.{mirrored, turned, IsLeftOf, IsBeside};
 
+use crate::overlaps::have_common;
 use geo_rect::{Interval, Rect};
 
 /// A side of a rectangle.
@@ -68,19 +69,6 @@ fn is_just_before(i: Interval, j: Interval) -> bool
         return false;
     }
     if j.low - 1 > i.high {
-        return false;
-    }
-    true
-}
-
-/// Whether some number is in both.
-fn have_common(i: Interval, j: Interval) -> bool
-    ensures { IsTrue result ↔ HaveCommon i j }
-{
-    if i.low > j.high {
-        return false;
-    }
-    if j.low > i.high {
         return false;
     }
     true

@@ -1,4 +1,4 @@
-ghost use Rattle.std.specs.Prelude.{◌≡◌, [], ◌∷◌, ◌++◌, length, OnOk, OnErr, IsTrue, ◌↔◌};
+ghost use Rattle.std.specs.Prelude.{◌≡◌, pos, [], ◌∷◌, ◌++◌, length, OnOk, OnErr, IsTrue, ◌↔◌};
 
 use geo_rect::{Label, NoMemory, Rect};
 use smallvec::SmallVec;
@@ -14,6 +14,10 @@ pub struct Strip {
 
 /// The free point 0, 0: what fills the places of a `Strips` that hold no strip yet.
 impl Default for Strip {
+    ghost use Rattle.geo_rect.specs.declared.ids.Label.TheVariants.{Free};
+
+    ghost is_default = { λ s. (s.label ≡ Free) × (s.area.x0 ≡ pos 0) × (s.area.y0 ≡ pos 0) × (s.area.x1 ≡ pos 0) × (s.area.y1 ≡ pos 0) };
+
     fn default() -> Strip {
         Strip {
             area: Rect::new(0, 0, 0, 0),

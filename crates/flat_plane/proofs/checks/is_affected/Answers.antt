@@ -1,5 +1,4 @@
 use Rattle.std.proofs.Common.{rules, arith}
-use Rattle.std.proofs.lemmas.Int.{ints}
 use Rattle.flat_plane.proofs.FromParts.{affected_from_parts}
 use Rattle.flat_plane.proofs.checks.is_affected.Goals as goal
 

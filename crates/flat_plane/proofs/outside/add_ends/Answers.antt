@@ -1,4 +1,4 @@
-use Rattle.std.proofs.Common.{◌⊎◌, inl, inr}
+use Rattle.std.proofs.Common.{inl, inr}
 use Rattle.geo_rect.specs.Plane.{rows}
 use Rattle.flat_plane.proofs.PaintedRows.{off_rows}
 use Rattle.flat_plane.proofs.outside.add_ends.Goals as goal
@@ -9,6 +9,6 @@ returns-clause-keeps c p h = c.in_ok-both.ensures.keeps p (c.in_ok-lower.ensures
 pub returns-clause-adds : goal.returns-clause-adds
 returns-clause-adds c p h a off =
     elim (off_rows (rows c.args.brush.area) p.y off) [
-      inl below ↦ c.in_ok-both.ensures.keeps p (c.in_ok-lower.ensures.adds p h below)
-    | inr above ↦ c.in_ok-both.ensures.adds p h above
+      | inl below ↦ c.in_ok-both.ensures.keeps p (c.in_ok-lower.ensures.adds p h below)
+      | inr above ↦ c.in_ok-both.ensures.adds p h above
     ]

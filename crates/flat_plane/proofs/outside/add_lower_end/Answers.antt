@@ -1,15 +1,13 @@
-use Rattle.std.proofs.Common.{ℤ, ◌≡◌, ◌<ℤ◌, sym, subst, ap, ◌∙◌, List, Contains, arith}
+use Rattle.std.proofs.Common.{ℤ, sym, subst, ap, List, arith}
 use Rattle.std.proofs.lemmas.Int.{ints}
 use Rattle.std.proofs.lemmas.Result.{IfOk-weaker}
 use Rattle.geo_rect.specs.declared.shapes.Interval.{Interval}
-use Rattle.geo_rect.specs.declared.shapes.Point.{Point}
-use Rattle.geo_rect.specs.Plane.{columns, rows, rect_of, HasPoint}
+use Rattle.geo_rect.specs.Plane.{rows}
 use Rattle.plane_core.specs.declared.strips.Strip.{Strip}
-use Rattle.plane_core.specs.Labels.{label_of, painted}
-use Rattle.plane_core.specs.Strips.{IsHeld, IsStrip}
-use Rattle.flat_plane.specs.Draft.{AreApart, IsDraft, IsRunInEachRow}
+use Rattle.plane_core.specs.Labels.{label_of}
+use Rattle.flat_plane.specs.Draft.{AreApart, IsRunInEachRow}
 use Rattle.flat_plane.specs.Painting.{IsDraftOf, IsPartBefore, new_labels}
-use Rattle.flat_plane.proofs.PaintedRows.{in_rows, lower_has, lower_runs, repainted}
+use Rattle.flat_plane.proofs.PaintedRows.{lower_has, lower_runs, repainted}
 use Rattle.flat_plane.proofs.outside.add_lower_end.Goals as goal
 
 pub returns-then-strip-brush-clause-adds : goal.returns-then-strip-brush-clause-adds
@@ -33,10 +31,10 @@ returns-clause-draft c =
     let Q1 : Interval → Type 0 = λ i. R i c.rows-2.result in
     let Q2 : Interval → Type 0 = λ j. R (rows c.args.strip.area) j in
     let part : IsPartBefore (rows c.args.strip.area) (rows brush.area) c.part_before-rows.result =
-      subst Q2 c.rows-2.ensures (subst Q1 c.rows.ensures c.part_before-rows.ensures) in
+    subst Q2 c.rows-2.ensures (subst Q1 c.rows.ensures c.part_before-rows.ensures) in
     let runs : IsRunInEachRow brush.domain (new_labels strips brush) c.with_rows.result =
-      lower_runs brush.domain brush.area brush.label (label_of strips) (new_labels strips brush) c.args.strip c.with_rows.result c.part_before-rows.result
-      (repainted brush.area brush.label (label_of strips)) (c.requires.can_paint.plane.each c.args.strip c.requires.listed) part c.with_rows.ensures in
+    lower_runs brush.domain brush.area brush.label (label_of strips) (new_labels strips brush) c.args.strip c.with_rows.result c.part_before-rows.result
+    (repainted brush.area brush.label (label_of strips)) (c.requires.can_paint.plane.each c.args.strip c.requires.listed) part c.with_rows.ensures in
     IfOk-weaker c.add.result _ _ (λ new k. k brush.domain (new_labels strips brush) on_slice runs) c.add.ensures.draft
 
 pub returns-clause-adds : goal.returns-clause-adds
@@ -46,5 +44,5 @@ returns-clause-adds c =
     let Q1 : Interval → Type 0 = λ i. R i c.rows-2.result in
     let Q2 : Interval → Type 0 = λ j. R (rows c.args.strip.area) j in
     let part : IsPartBefore (rows c.args.strip.area) (rows brush.area) c.part_before-rows.result =
-      subst Q2 c.rows-2.ensures (subst Q1 c.rows.ensures c.part_before-rows.ensures) in
+    subst Q2 c.rows-2.ensures (subst Q1 c.rows.ensures c.part_before-rows.ensures) in
     IfOk-weaker c.add.result _ _ (λ new k p h off. k p (lower_has brush.area c.args.strip c.with_rows.result c.part_before-rows.result p part c.with_rows.ensures h off)) c.add.ensures.adds

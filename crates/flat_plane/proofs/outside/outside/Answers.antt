@@ -1,4 +1,4 @@
-use Rattle.std.proofs.Common.{◌≡◌, sym, subst, List, Contains, ◌+◌, ◌++◌, ◌∷◌, [], ◌⊎◌, inl, inr, take, arith}
+use Rattle.std.proofs.Common.{◌≡◌, sym, subst, List, ◌∷◌, [], inl, inr, take, arith}
 use Rattle.std.proofs.lemmas.List.{take_all}
 use Rattle.std.proofs.lemmas.List.Elements.{Contains-append_cases}
 use Rattle.geo_rect.specs.Plane.{HasPoint}
@@ -26,14 +26,14 @@ loop-strip-preserved c =
       draft = c.in_ok-draft-2.ensures.draft;
       untouched = λ s h n p hp. c.in_ok-draft-2.ensures.keeps p (c.loop-strip.invariant.untouched s h n p hp);
       outside = subst P (sym (taken_more c.args.strips.now c.loop-strip.strip-index here c.loop-strip-test.true c.strip-item.is))
-        (λ s h a p hp off. elim (Contains-append_cases before (here ∷ []) s h) [
-          inl k ↦ c.in_ok-draft-2.ensures.keeps p (c.loop-strip.invariant.outside s k a p hp off)
-        | inr k ↦
-            let e : s ≡ here = sym (has_one here s k) in
-            let Q : Strip → Type 0 = λ t. HasPoint t.area p in
-            let R : Strip → Type 0 = λ t. IsAffected c.args.brush.area t.area in
-            c.in_ok-draft-2.ensures.adds p (subst Q e hp) (subst R e a) off
-        ]);
+          (λ s h a p hp off. elim (Contains-append_cases before (here ∷ []) s h) [
+            | inl k ↦ c.in_ok-draft-2.ensures.keeps p (c.loop-strip.invariant.outside s k a p hp off)
+            | inr k ↦
+                let e : s ≡ here = sym (has_one here s k) in
+                let Q : Strip → Type 0 = λ t. HasPoint t.area p in
+                let R : Strip → Type 0 = λ t. IsAffected c.args.brush.area t.area in
+                c.in_ok-draft-2.ensures.adds p (subst Q e hp) (subst R e a) off
+          ]);
     }
 
 pub returns-clause-outside : goal.returns-clause-outside

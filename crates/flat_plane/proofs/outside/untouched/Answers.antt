@@ -12,13 +12,13 @@ loop-strip-preserved c =
     let s : Strip = c.strip-item.result in
     let P : List Strip → Type 0 = λ l. IsChoice (take (c.loop-strip.strip-index + 1) c.args.strips.now) (λ s. ¬ IsAffected c.args.area s.area) l in
     elim c.if-is_untouched.branch [
-      then-is_untouched+in_ok-push w ↦
-        subst P (sym (w.found-is ∙ w.in_ok-push.ensures.ok))
-        (choice_taken c.args.strips.now c.loop-strip.found (λ s. ¬ IsAffected c.args.area s.area) c.loop-strip.strip-index s c.requires c.loop-strip-test.true c.strip-item.is
+      | then-is_untouched+in_ok-push w ↦
+          subst P (sym (w.found-is ∙ w.in_ok-push.ensures.ok))
+          (choice_taken c.args.strips.now c.loop-strip.found (λ s. ¬ IsAffected c.args.area s.area) c.loop-strip.strip-index s c.requires c.loop-strip-test.true c.strip-item.is
           (c.is_untouched.ensures.0 w.if-is_untouched.true) c.loop-strip.invariant)
-    | else-is_untouched w ↦
-        subst P (sym w.found-is)
-        (choice_left c.args.strips.now c.loop-strip.found (λ s. ¬ IsAffected c.args.area s.area) c.loop-strip.strip-index s c.loop-strip-test.true c.strip-item.is
+      | else-is_untouched w ↦
+          subst P (sym w.found-is)
+          (choice_left c.args.strips.now c.loop-strip.found (λ s. ¬ IsAffected c.args.area s.area) c.loop-strip.strip-index s c.loop-strip-test.true c.strip-item.is
           (λ v. let yes' : c.is_untouched.result ≡ true = c.is_untouched.ensures.1 v in let no' : c.is_untouched.result ≡ false = w.if-is_untouched.false in cc)
           c.loop-strip.invariant)
     ]

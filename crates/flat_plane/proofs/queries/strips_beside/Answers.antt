@@ -1,0 +1,27 @@
+use Rattle.std.proofs.Common.{◌≡◌, true, false, sym, ◌∙◌, subst, List, ◌+◌, take, arith}
+use Rattle.plane_core.specs.declared.strips.Strip.{Strip}
+use Rattle.plane_core.specs.Choice.{IsChoice}
+use Rattle.plane_core.proofs.Choices.{choice_taken, choice_left}
+use Rattle.plane_core.specs.Sides.{IsBeside}
+use Rattle.flat_plane.proofs.StartDraft.{choice_end}
+use Rattle.flat_plane.proofs.queries.strips_beside.Goals as goal
+use Rattle.flat_plane.proofs.queries.strips_beside.Goals.{then-is_beside+in_ok-push, else-is_beside}
+
+pub loop-strip-preserved : goal.loop-strip-preserved
+loop-strip-preserved c =
+    let s : Strip = c.strip-item.result in
+    let P : List Strip → Type 0 = λ l. IsChoice (take (c.loop-strip.strip-index + 1) c.args.strips.now) (λ s. IsBeside c.args.side c.args.t s.area) l in
+    elim c.if-is_beside.branch [
+      | then-is_beside+in_ok-push w ↦
+          subst P (sym (w.found-is ∙ w.in_ok-push.ensures.ok))
+          (choice_taken c.args.strips.now c.loop-strip.found (λ s. IsBeside c.args.side c.args.t s.area) c.loop-strip.strip-index s c.requires.in_order c.loop-strip-test.true c.strip-item.is
+          (c.is_beside.ensures.0 w.if-is_beside.true) c.loop-strip.invariant)
+      | else-is_beside w ↦
+          subst P (sym w.found-is)
+          (choice_left c.args.strips.now c.loop-strip.found (λ s. IsBeside c.args.side c.args.t s.area) c.loop-strip.strip-index s c.loop-strip-test.true c.strip-item.is
+          (λ v. let yes' : c.is_beside.result ≡ true = c.is_beside.ensures.1 v in let no' : c.is_beside.result ≡ false = w.if-is_beside.false in cc)
+          c.loop-strip.invariant)
+    ]
+
+pub returns : goal.returns
+returns c = choice_end c.args.strips.now c.loop-strip.found (λ s. IsBeside c.args.side c.args.t s.area) c.loop-strip.strip-index (omega arith) c.loop-strip.invariant
