@@ -1,11 +1,11 @@
 -- A table that finds names by their bytes, seen as the list of the names.
-use Rattle.std.proofs.Common.{◌≡◌, ◌≢◌, ℕ, ◌+◌, ◌<◌, Bool, true, false, not, cond, ◌||◌, List, [], ◌∷◌, ◌++◌, length, get_or, map, take, position, slice_get, Option, Some, None, Contains, Decides, if◌then◌else◌, ap, sym, subst, refl, ◌∙◌, arith}
+use Rattle.std.proofs.Common.{◌≡◌, ◌≢◌, ℕ, ◌+◌, ◌<◌, Bool, true, false, not, cond, ◌||◌, List, [], ◌∷◌, ◌++◌, length, get_or, map, take, position, slice_get, Some, Contains, Decides, if◌then◌else◌, ap, sym, subst, refl, ◌∙◌, arith}
 use Rattle.std.specs.Prelude.{AllPairs}
 use Rattle.std.specs.List.{list_any, prefix_len}
 use Rattle.std.specs.Str.{bytes_eq}
 use Rattle.std.proofs.lemmas.Bool.{false≢true}
 use Rattle.std.proofs.lemmas.Bool.Decides.{Decides-like, Decides-by_or}
-use Rattle.std.proofs.lemmas.List.{length-map, length-take, get_or-take, take_more, map_push, get_or_default}
+use Rattle.std.proofs.lemmas.List.{length-map, length-take, get_or-take, take_more, map_push}
 use Rattle.std.proofs.lemmas.List.Elements.{Decides-contains}
 use Rattle.std.proofs.lemmas.List.Quantifiers.{position-Some}
 use Rattle.std.proofs.lemmas.Option.{slice_get-get_or}

@@ -17,6 +17,8 @@ mod parts;
 mod rules;
 mod shapes;
 mod states;
+#[cfg(test)]
+mod tests;
 mod validity;
 
 pub use boards::Board;

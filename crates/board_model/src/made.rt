@@ -1,4 +1,4 @@
-ghost use Rattle.std.specs.Prelude.{◌≡◌, ◌<◌, length, replicate, [], IfOk, slice_index_or};
+ghost use Rattle.std.specs.Prelude.{◌≡◌, ◌<◌, length, replicate, [], All, IfOk, slice_index_or};
 
 use crate::boards::Board;
 use geo_rect::{KindId, List, NetId, NoMemory, Node};
@@ -29,7 +29,10 @@ pub struct Made {
 impl Made {
     /// No connections: an empty list for each net.
     pub fn none(alloc: Global, board: &Board) -> Result<Made, NoMemory>
-        ensures { IfOk result (λ m. m.lists ≡ replicate (length board.now.parts.net_names) []) }
+        ensures lists { IfOk result
+            (λ m. m.lists ≡ replicate (length board.now.parts.net_names) []) }
+        ensures nets { IfOk result (λ m. length m.lists ≡ length board.now.parts.net_names) }
+        ensures none_made { IfOk result (λ m. All (λ conns. conns ≡ []) m.lists) }
     {
         let mut lists = List::new(alloc);
         for _net in 0..board.nets() {

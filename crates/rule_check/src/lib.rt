@@ -2,7 +2,11 @@
 #![tactic(auto)]
 
 mod checks;
+mod meaning;
 mod outlines;
 mod pairs;
+#[cfg(test)]
+mod tests;
 
 pub use checks::violations;
+pub use meaning::violations_are_exact;

@@ -1,4 +1,4 @@
-use Rattle.std.proofs.Common.{IsTrue, ◌+◌, Contains, drop, subst, sym, rules, arith}
+use Rattle.std.proofs.Common.{◌+◌, Contains, drop, subst, sym, rules, arith}
 use Rattle.std.proofs.lemmas.List.{take_rest}
 use Rattle.board_model.proofs.NameLists.{apart_more}
 use Rattle.board_model.proofs.names.are_apart.Goals as goal

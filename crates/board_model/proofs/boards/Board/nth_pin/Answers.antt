@@ -1,4 +1,4 @@
-use Rattle.std.proofs.Common.{◌≡◌, ◌==◌, ◌∙◌, Bool, List, true, length, filter, take, slice_get, Some, ap, sym, subst, rules}
+use Rattle.std.proofs.Common.{◌≡◌, ◌==◌, ◌∙◌, Bool, List, true, filter, slice_get, Some, sym, subst, rules}
 use Rattle.board_model.specs.declared.parts.Pin.{Pin}
 use Rattle.board_model.proofs.Filtered.{slice_get-filter}
 use Rattle.board_model.proofs.boards.Board.nth_pin.Goals as goal

@@ -1,4 +1,4 @@
-use Rattle.std.proofs.Common.{◌≡◌, List, ℕ, Option, Some, None, IfNone, Contains, slice_get, string_bytes, subst, sym, ◌∙◌, rules}
+use Rattle.std.proofs.Common.{◌≡◌, List, ℕ, Some, None, IfNone, Contains, slice_get, string_bytes, subst, sym}
 use Rattle.board_model.proofs.NameTables.{found_at, not_found}
 use Rattle.board_model.proofs.name_index.NameIndex.find.Goals as goal
 

@@ -1,0 +1,18 @@
+//! All planes of a state: one for the wires of each class on each layer, and one for the vias of
+//! each class of each kind. It stands over any `Plane`.
+//!
+//! All coordinates are whole micrometres.
+#![tactic(auto)]
+
+mod adds;
+mod builds;
+mod families;
+mod frames;
+mod joins;
+mod sets;
+
+pub use adds::{add_to_plane, add_to_rows};
+pub use builds::build_rows;
+pub use families::Family;
+pub use joins::paint_shape;
+pub use sets::PlaneSet;
