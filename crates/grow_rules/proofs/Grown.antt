@@ -7,7 +7,7 @@ use Rattle.geo_rect.specs.declared.ids.LayerId.{LayerId}
 use Rattle.geo_rect.specs.declared.shapes.Point.{Point}
 use Rattle.geo_rect.specs.declared.shapes.Rect.{Rect}
 use Rattle.geo_rect.specs.Plane.{HasPoint, IsBounded, IsGrown, IsTooClose, square}
-use Rattle.geo_rect.proofs.Squares.{grown-square}
+use Rattle.geo_rect.proofs.Squares.{grown_square}
 use Rattle.board_model.specs.declared.parts.BoardParts.{BoardParts}
 use Rattle.board_model.specs.declared.shapes.Shape.{Shape}
 use Rattle.board_model.specs.Lookup.{rule_of, pad_of, kind_of}
@@ -19,7 +19,7 @@ use Rattle.grow_rules.specs.Given.{IsNearOrigin}
 
 module _ (b r : Rect) (h s g : ℤ) (half : IsMeasure h) (gap : IsMeasure s) (is : h +ℤ s ≡ g) (w : IsGrown b g r) where
   pub grown-points : (p : Point) → HasPoint r p ↔ IsTooClose (square p h) b s
-  grown-points p = let t = grown-square b r g h s p w (omega (arith, ints)) is in (t.1, t.0)
+  grown-points p = let t = grown_square b r g h s p w (omega (arith, ints)) is in (t.1, t.0)
 
   pub grown-bounded : IsNearOrigin b → IsBounded r
   grown-bounded near =
