@@ -1,6 +1,12 @@
 //! The reader of the board text: a board and its commands, or the first line that breaks a rule.
 #![tactic(auto)]
 
+mod forms;
 mod lines;
+mod names;
 mod numbers;
+mod refusals;
+mod tables;
 mod words;
+
+pub use refusals::{ReadInput, Refusal, RefusalKind};
