@@ -1,6 +1,11 @@
+pub mod Checks
+pub mod Contract
+pub mod Corners
+pub mod Drafts
 pub mod Forms
 pub mod Kinds
 pub mod Lines
 pub mod Names
 pub mod Numbers
+pub mod Reading
 pub mod Tables

@@ -1,7 +1,10 @@
 //! The reader of the board text: a board and its commands, or the first line that breaks a rule.
 #![tactic(auto)]
 
+mod checks;
+mod drafts;
 mod forms;
+mod inputs;
 mod lines;
 mod names;
 mod numbers;
@@ -9,4 +12,5 @@ mod refusals;
 mod tables;
 mod words;
 
+pub use inputs::Input;
 pub use refusals::{ReadInput, Refusal, RefusalKind};

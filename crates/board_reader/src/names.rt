@@ -35,10 +35,10 @@ impl Names {
     }
 
     /// The number of names.
-    pub fn len(&self) -> usize
+    pub fn len(&self) -> u32
         ensures { result ≡ length self.now }
     {
-        self.index.len()
+        self.index.len() as u32
     }
 
     pub fn contains(&self, word: &[u8]) -> bool

@@ -87,6 +87,15 @@ impl Model for Text {
 }
 
 impl Text {
+    /// The text of no bytes. It takes no memory.
+    pub fn new(alloc: Global) -> Text
+        ensures { result ≡ [] }
+    {
+        Text {
+            text: String::new(alloc),
+        }
+    }
+
     /// A text of these bytes.
     pub fn from_str(alloc: Global, text: &str) -> Result<Text, NoMemory>
         ensures { IfOk result (λ t. t ≡ text.now) }
