@@ -1,6 +1,7 @@
 //! The reader of the board text: a board and its commands, or the first line that breaks a rule.
 #![tactic(auto)]
 
+mod additions;
 mod checks;
 mod drafts;
 mod forms;

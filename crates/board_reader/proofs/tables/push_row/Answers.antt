@@ -12,7 +12,7 @@ loop-column-preserved g c =
     elim c.match-value_at.branch [
       in-Some+in_ok-push w ↦
         ap (λ l. l ++ filter_map at (range_with_len (c.loop-column.column + 1) (c.args.columns - (c.loop-column.column + 1)))) (w.list-is ∙ w.in_ok-push.ensures.ok)
-        ∙ (filter_map-given at c.loop-column.column c.args.columns c.loop-column.list w.in-Some.value c.loop-column-test.true (sym w.in-Some.ensures) ∙ c.loop-column.invariant)
+        ∙ (filter_map-given at c.loop-column.column c.args.columns c.loop-column.list w.in-Some.value c.loop-column-test.true (sym {b = at c.loop-column.column} w.in-Some.ensures) ∙ c.loop-column.invariant)
     | in_default w ↦
         ap (λ l. l ++ filter_map at (range_with_len (c.loop-column.column + 1) (c.args.columns - (c.loop-column.column + 1)))) w.list-is
-        ∙ (ap (λ l. c.loop-column.list ++ l) (filter_map-none at c.loop-column.column c.args.columns c.loop-column-test.true (sym w.in_default.ensures)) ∙ c.loop-column.invariant) ]
+        ∙ (ap (λ l. c.loop-column.list ++ l) (filter_map-none at c.loop-column.column c.args.columns c.loop-column-test.true (sym {b = at c.loop-column.column} w.in_default.ensures)) ∙ c.loop-column.invariant) ]
