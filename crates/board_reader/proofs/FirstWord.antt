@@ -10,15 +10,15 @@ use Rattle.board_reader.specs.Lines.{words, onto, is_blank, after_blanks, begins
 abbrev pub front_length : List ℕ → ℕ
 front_length = prefix_len (λ b. not (is_blank b))
 
-words-blank : (b : ℕ) (bs : List ℕ) → is_blank b ≡ true → words (b ∷ bs) ≡ words bs
+pub words-blank : (b : ℕ) (bs : List ℕ) → is_blank b ≡ true → words (b ∷ bs) ≡ words bs
 unfolding words
 words-blank b bs e = rw e
 
-words-inside : (b : ℕ) (bs : List ℕ) → is_blank b ≡ false → begins_word bs ≡ true → words (b ∷ bs) ≡ onto b (words bs)
+pub words-inside : (b : ℕ) (bs : List ℕ) → is_blank b ≡ false → begins_word bs ≡ true → words (b ∷ bs) ≡ onto b (words bs)
 unfolding words
 words-inside b bs e f = rw (e, f)
 
-words-last : (b : ℕ) (bs : List ℕ) → is_blank b ≡ false → begins_word bs ≡ false → words (b ∷ bs) ≡ (b ∷ []) ∷ words bs
+pub words-last : (b : ℕ) (bs : List ℕ) → is_blank b ≡ false → begins_word bs ≡ false → words (b ∷ bs) ≡ (b ∷ []) ∷ words bs
 unfolding words
 words-last b bs e f = rw (e, f)
 

@@ -4,8 +4,10 @@ pub mod Corners
 pub mod Drafts
 pub mod Forms
 pub mod Kinds
+pub mod Kept
 pub mod Lines
 pub mod Names
 pub mod Numbers
+pub mod Passing
 pub mod Reading
 pub mod Tables

@@ -9,9 +9,11 @@ mod inputs;
 mod lines;
 mod names;
 mod numbers;
+mod reading;
 mod refusals;
 mod tables;
 mod words;
 
 pub use inputs::Input;
+pub use reading::read_input;
 pub use refusals::{ReadInput, Refusal, RefusalKind};

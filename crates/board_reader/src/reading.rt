@@ -1,0 +1,156 @@
+ghost use Rattle.std.specs.Prelude.{◌≡◌, ◌≢◌, All, IfOk, OnOk};
+ghost use Rattle.board_reader.specs.declared.forms.Stage.TheVariants.{Commands};
+ghost use Rattle.board_reader.specs.declared.reading.LineError.TheVariants as line_error;
+ghost use Rattle.board_reader.specs.declared.refusals.ReadInput.TheVariants as read_input_error;
+ghost use Rattle.board_reader.specs.Contract.{told_by, TellsReading, TellsStep, TellsLines};
+ghost use Rattle.board_reader.specs.Drafts.{after_form, parts_of};
+ghost use Rattle.board_reader.specs.Kept.{IsDraft, IsWord};
+ghost use Rattle.board_reader.specs.Lines.{lines};
+ghost use Rattle.board_reader.specs.Passing.{BreaksNone};
+ghost use Rattle.board_reader.specs.Reading.{step, reading_from, reading, told};
+
+use crate::drafts::Draft;
+use crate::forms::{Form, Stage, form_of};
+use crate::inputs::Input;
+use crate::lines::{counts, next_line};
+use crate::refusals::{ReadInput, Refusal, RefusalKind};
+use crate::tables::lay_out;
+use crate::words::Words;
+use board_model::{Board, BoardParts};
+use geo_rect::NoMemory;
+use std::alloc::Global;
+
+/// Why a line was not read.
+pub enum LineError {
+    Refused(RefusalKind),
+    NoMemory,
+}
+
+impl From<NoMemory> for LineError {
+    ghost from_gives = { λ _ e. e ≡ line_error.NoMemory };
+
+    fn from(_error: NoMemory) -> LineError {
+        LineError::NoMemory
+    }
+}
+
+impl From<NoMemory> for ReadInput {
+    ghost from_gives = { λ _ e. e ≡ read_input_error.NoMemory };
+
+    fn from(_error: NoMemory) -> ReadInput {
+        ReadInput::NoMemory
+    }
+}
+
+impl Draft {
+    /// Adds what a line of this form and these words says.
+    fn add(&mut self, alloc: Global, form: Form, words: &Words) -> Result<(), NoMemory>
+        requires draft { IsDraft self.old }
+        requires words { All IsWord words.now }
+        requires passes { BreaksNone self.old form words.now }
+        ensures { OnOk result (self.new ≡ after_form self.old form words.now) }
+    {
+        match form {
+            Form::Board => self.add_board(alloc, words),
+            Form::Layer => self.add_layer(alloc, words),
+            Form::Class => self.add_class(alloc, words),
+            Form::Rule => self.add_rule(words),
+            Form::ViaKind => self.add_kind(alloc, words),
+            Form::Pad => self.add_pad(words),
+            Form::Block => self.add_block(words),
+            Form::Net => self.add_net(alloc, words),
+            Form::Pin => self.add_pin(words),
+            Form::End => {
+                self.add_end(words);
+                Ok(())
+            }
+            Form::Rules => self.add_rules(words),
+        }
+    }
+
+    /// Reads one line. After an error the draft is not to be used.
+    fn read_line(&mut self, alloc: Global, line: &[u8]) -> Result<(), LineError>
+        requires { IsDraft self.old }
+        ensures { TellsStep result (step self.old line.now) self.new }
+    {
+        if !counts(line) {
+            return Ok(());
+        }
+        let words = Words::of(alloc, line)?;
+        if let Some(kind) = self.kind_with(line, &words) {
+            return Err(LineError::Refused(kind));
+        }
+        if let Some(form) = form_of(words.get(0)) {
+            self.add(alloc, form, &words)?;
+        }
+        Ok(())
+    }
+
+    /// Reads all lines, and gives the number that one more line would have. After an error the
+    /// draft is not to be used.
+    fn read_lines(&mut self, alloc: Global, text: &[u8]) -> Result<u64, ReadInput>
+        requires { IsDraft self.old }
+        ensures { TellsLines result (reading_from self.old 1 (lines text.now)) self.new }
+    {
+        let mut rest = text;
+        let mut number = 1;
+        while !rest.is_empty() {
+            let (line, after) = next_line(rest);
+            match self.read_line(alloc, line) {
+                Ok(()) => {}
+                Err(LineError::Refused(kind)) => {
+                    return Err(ReadInput::Refused(Refusal { line: number, kind }));
+                }
+                Err(LineError::NoMemory) => return Err(ReadInput::NoMemory),
+            }
+            rest = after;
+            number += 1;
+        }
+        Ok(number)
+    }
+
+    /// The board and the commands of a whole text.
+    fn finish(self, alloc: Global) -> Result<Input, NoMemory>
+        requires draft { IsDraft self }
+        requires ended { self.stage ≡ Commands }
+        ensures { IfOk result (λ i. told_by i ≡ told self) }
+    {
+        let layers = self.layers.len();
+        let classes = self.classes.len();
+        let kinds = self.kind_names.len();
+        let parts = BoardParts {
+            name: self.heading.name,
+            width: self.heading.width as i32,
+            height: self.heading.height as i32,
+            layers: self.layers.to_list(alloc)?,
+            classes: self.classes.to_list(alloc)?,
+            rules: lay_out(alloc, self.rules.as_slice(), layers, classes)?,
+            kind_names: self.kind_names.to_list(alloc)?,
+            kinds: self.kinds,
+            pads: lay_out(alloc, self.pads.as_slice(), kinds, classes)?,
+            blocks: self.blocks,
+            net_names: self.net_names.to_list(alloc)?,
+            net_classes: self.net_classes,
+            pins: self.pins,
+        };
+        Ok(Input {
+            board: Board::build(alloc, parts)?,
+            commands: self.commands,
+        })
+    }
+}
+
+/// Reads a board text: the board and the commands, or the first line that breaks a rule.
+pub fn read_input(alloc: Global, bytes: &[u8]) -> Result<Input, ReadInput>
+    ensures { TellsReading result (reading bytes.now) }
+{
+    let mut draft = Draft::new(alloc);
+    let next = draft.read_lines(alloc, bytes)?;
+    match draft.stage {
+        Stage::Commands => Ok(draft.finish(alloc)?),
+        Stage::Start | Stage::Parts => Err(ReadInput::Refused(Refusal {
+            line: next,
+            kind: RefusalKind::NoEnd,
+        })),
+    }
+}
