@@ -17,6 +17,7 @@ use Rattle.board_reader.specs.Lines.{word}
 use Rattle.board_reader.specs.Names.{is_in}
 use Rattle.board_reader.specs.Numbers.{number, IsShort, HaveShortCorners}
 use Rattle.board_reader.specs.Passing.{BreaksNone}
+use Rattle.board_reader.proofs.Ascii.{ascii-bytes}
 use Rattle.board_reader.proofs.Unbroken.{each-place, in-range, in-width, in-height, is-fresh, stands}
 
 short-number : (d : Draft) (a b : ℕ) (w : List ℕ) → b ≤ 1048576 → (a ≤ number w) × (number w ≤ b) → IsShort w
@@ -83,12 +84,6 @@ pub short-corners : (d : Draft) (ws : List (List ℕ)) → IsDraft d → d.stage
 short-corners d ws k e on =
     let sides = has-heading d k e in
     record { left = omega (arith, on.left, sides.0); below = omega (arith, on.below, sides.1); right = omega (arith, on.right, sides.0); above = omega (arith, on.above, sides.1) }
-
-ascii-bytes : (w : List ℕ) → All IsWordByte w → IsAscii w
-ascii-bytes w h i =
-    elim (cases_lt i (length w)) [
-      inl inside ↦ omega (arith, (h i 0 inside).to)
-    | inr past ↦ rw (get_or_past w i 0 past) (omega arith) ]
 
 ascii-none : IsAscii []
 ascii-none j = omega arith

@@ -21,6 +21,11 @@ TellsReading (Ok i) read = read ≡ Ok (told_by i)
 TellsReading (Err (Refused refusal)) read = read ≡ Err refusal
 TellsReading (Err NoMemory) read = Unit {0}
 
+-- what a line was refused for, with its number
+abbrev pub at_line : LineError → ℕ → ReadInput
+at_line (line_error.Refused kind) n = Refused (record { line = n; kind = kind })
+at_line line_error.NoMemory n = NoMemory
+
 -- the answer for one line, which leaves the draft new
 abbrev pub TellsStep : Result (Unit {0}) LineError → Result Draft RefusalKind → Draft → Type 0
 TellsStep (Ok done) said new = said ≡ Ok new

@@ -15,6 +15,8 @@ use Rattle.board_reader.specs.declared.drafts.Heading.{Heading}
 use Rattle.board_reader.specs.declared.forms.Form.{Form}
 use Rattle.board_reader.specs.declared.forms.Form.TheVariants as form
 use Rattle.board_reader.specs.declared.forms.Stage.TheVariants.{Start, Parts, Commands}
+use Rattle.board_reader.specs.declared.finishing.NameLists.{NameLists}
+use Rattle.board_reader.specs.declared.finishing.Tables.{Tables}
 use Rattle.board_reader.specs.Corners.{span}
 use Rattle.board_reader.specs.Lines.{word}
 use Rattle.board_reader.specs.Names.{number_in}
@@ -88,4 +90,15 @@ parts_of d = record {
   layers = d.layers; classes = d.classes; rules = table d.rules (length d.layers) (length d.classes);
   kind_names = d.kind_names; kinds = d.kinds; pads = table d.pads (length d.kind_names) (length d.classes);
   blocks = d.blocks; net_names = d.net_names; net_classes = d.net_classes; pins = d.pins
+}
+
+-- all names
+abbrev pub names_of_draft : Draft → NameLists
+names_of_draft d = record { layers = d.layers; classes = d.classes; kinds = d.kind_names; nets = d.net_names }
+
+-- the rules and the pads, laid out
+abbrev pub tables_of_draft : Draft → Tables
+tables_of_draft d = record {
+  rules = table d.rules (length d.layers) (length d.classes);
+  pads = table d.pads (length d.kind_names) (length d.classes)
 }

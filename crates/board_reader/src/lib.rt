@@ -4,6 +4,7 @@
 mod additions;
 mod checks;
 mod drafts;
+mod finishing;
 mod forms;
 mod inputs;
 mod lines;

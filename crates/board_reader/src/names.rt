@@ -1,5 +1,6 @@
 ghost use Rattle.std.specs.Prelude.{◌≡◌, ◌<◌, [], ◌∷◌, ◌++◌, length, IfOk, OnOk, OnErr, false, map, All};
 ghost use Rattle.std.specs.Str.{IsAscii};
+ghost use Rattle.board_model.specs.Rules.{IsName};
 ghost use Rattle.board_reader.specs.Names.{is_in, number_in};
 
 use geo_rect::{List, NoMemory, Text};
@@ -71,7 +72,7 @@ impl Names {
 
     /// All names as texts.
     pub fn to_list(&self, alloc: Global) -> Result<List<Text>, NoMemory>
-        requires { All IsAscii self.now }
+        requires { All IsName self.now }
         ensures { IfOk result (λ l. l ≡ self.now) }
     {
         texts_of(alloc, self.index.as_slice())
@@ -79,7 +80,7 @@ impl Names {
 }
 
 fn texts_of(alloc: Global, words: &[Vec<u8>]) -> Result<List<Text>, NoMemory>
-    requires { All IsAscii (map (λ v. v.items) words.now) }
+    requires { All IsName (map (λ v. v.items) words.now) }
     ensures { IfOk result (λ l. l ≡ map (λ v. v.items) words.now) }
 {
     let mut texts = List::new(alloc);

@@ -1,26 +1,24 @@
-ghost use Rattle.std.specs.Prelude.{◌≡◌, ◌≢◌, All, IfOk, OnOk};
-ghost use Rattle.board_reader.specs.declared.forms.Stage.TheVariants.{Commands};
+ghost use Rattle.std.specs.Prelude.{◌≡◌, All, OnOk};
 ghost use Rattle.board_reader.specs.declared.reading.LineError.TheVariants as line_error;
 ghost use Rattle.board_reader.specs.declared.refusals.ReadInput.TheVariants as read_input_error;
-ghost use Rattle.board_reader.specs.Contract.{told_by, TellsReading, TellsStep, TellsLines};
-ghost use Rattle.board_reader.specs.Drafts.{after_form, parts_of};
+ghost use Rattle.board_reader.specs.Contract.{at_line, TellsReading, TellsStep, TellsLines};
+ghost use Rattle.board_reader.specs.Drafts.{after_form};
 ghost use Rattle.board_reader.specs.Kept.{IsDraft, IsWord};
 ghost use Rattle.board_reader.specs.Lines.{lines};
 ghost use Rattle.board_reader.specs.Passing.{BreaksNone};
-ghost use Rattle.board_reader.specs.Reading.{step, reading_from, reading, told};
+ghost use Rattle.board_reader.specs.Reading.{step, reading_from, reading};
 
 use crate::drafts::Draft;
 use crate::forms::{Form, Stage, form_of};
 use crate::inputs::Input;
 use crate::lines::{counts, next_line};
 use crate::refusals::{ReadInput, Refusal, RefusalKind};
-use crate::tables::lay_out;
 use crate::words::Words;
-use board_model::{Board, BoardParts};
 use geo_rect::NoMemory;
 use std::alloc::Global;
 
 /// Why a line was not read.
+#[derive(Clone, Copy, Debug)]
 pub enum LineError {
     Refused(RefusalKind),
     NoMemory,
@@ -31,6 +29,18 @@ impl From<NoMemory> for LineError {
 
     fn from(_error: NoMemory) -> LineError {
         LineError::NoMemory
+    }
+}
+
+impl LineError {
+    /// The same of line number `line` of a text.
+    fn at(self, line: u64) -> ReadInput
+        ensures { result ≡ at_line self line }
+    {
+        match self {
+            LineError::Refused(kind) => ReadInput::Refused(Refusal { line, kind }),
+            LineError::NoMemory => ReadInput::NoMemory,
+        }
     }
 }
 
@@ -98,45 +108,12 @@ impl Draft {
             let (line, after) = next_line(rest);
             match self.read_line(alloc, line) {
                 Ok(()) => {}
-                Err(LineError::Refused(kind)) => {
-                    return Err(ReadInput::Refused(Refusal { line: number, kind }));
-                }
-                Err(LineError::NoMemory) => return Err(ReadInput::NoMemory),
+                Err(error) => return Err(error.at(number)),
             }
             rest = after;
             number += 1;
         }
         Ok(number)
-    }
-
-    /// The board and the commands of a whole text.
-    fn finish(self, alloc: Global) -> Result<Input, NoMemory>
-        requires draft { IsDraft self }
-        requires ended { self.stage ≡ Commands }
-        ensures { IfOk result (λ i. told_by i ≡ told self) }
-    {
-        let layers = self.layers.len();
-        let classes = self.classes.len();
-        let kinds = self.kind_names.len();
-        let parts = BoardParts {
-            name: self.heading.name,
-            width: self.heading.width as i32,
-            height: self.heading.height as i32,
-            layers: self.layers.to_list(alloc)?,
-            classes: self.classes.to_list(alloc)?,
-            rules: lay_out(alloc, self.rules.as_slice(), layers, classes)?,
-            kind_names: self.kind_names.to_list(alloc)?,
-            kinds: self.kinds,
-            pads: lay_out(alloc, self.pads.as_slice(), kinds, classes)?,
-            blocks: self.blocks,
-            net_names: self.net_names.to_list(alloc)?,
-            net_classes: self.net_classes,
-            pins: self.pins,
-        };
-        Ok(Input {
-            board: Board::build(alloc, parts)?,
-            commands: self.commands,
-        })
     }
 }
 
