@@ -1,14 +1,16 @@
-ghost use Rattle.std.specs.Prelude.{◌≡◌, ◌<◌, ◌^◌, pos, length, All, IfOk};
+ghost use Rattle.std.specs.Prelude.{◌≡◌, ◌<◌, ◌^◌, pos, [], length, All, IfOk};
 ghost use Rattle.board_model.specs.Rules.{IsName};
 ghost use Rattle.board_reader.specs.declared.forms.Stage.TheVariants.{Commands};
-ghost use Rattle.board_reader.specs.Contract.{told_by};
+ghost use Rattle.board_reader.specs.Contract.{told_by, TellsReading};
 ghost use Rattle.board_reader.specs.Drafts.{parts_of, names_of_draft, tables_of_draft};
 ghost use Rattle.board_reader.specs.Kept.{IsDraft};
-ghost use Rattle.board_reader.specs.Reading.{told};
+ghost use Rattle.board_reader.specs.Reading.{told, reading_from};
 ghost use Rattle.board_reader.specs.Tables.{table};
 
 use crate::drafts::{Draft};
+use crate::forms::Stage;
 use crate::inputs::Input;
+use crate::refusals::{ReadInput, Refusal, RefusalKind};
 use crate::tables::lay_out;
 use board_model::{Board, BoardParts, Rule};
 use geo_rect::{List, NoMemory, Text};
@@ -83,7 +85,7 @@ impl Draft {
     }
 
     /// The board and the commands of a whole text.
-    pub fn finish(self, alloc: Global) -> Result<Input, NoMemory>
+    fn finish(self, alloc: Global) -> Result<Input, NoMemory>
         requires draft { IsDraft self }
         requires ended { self.stage ≡ Commands }
         ensures { IfOk result (λ i. told_by i ≡ told self) }
@@ -112,5 +114,20 @@ impl Draft {
             board,
             commands: self.commands,
         })
+    }
+
+    /// What a text says whose lines are at their end, where `next` is the number that one more line
+    /// would have.
+    pub fn end(self, alloc: Global, next: u64) -> Result<Input, ReadInput>
+        requires { IsDraft self }
+        ensures { TellsReading result (reading_from self next []) }
+    {
+        match self.stage {
+            Stage::Commands => Ok(self.finish(alloc)?),
+            Stage::Start | Stage::Parts => Err(ReadInput::Refused(Refusal {
+                line: next,
+                kind: RefusalKind::NoEnd,
+            })),
+        }
     }
 }

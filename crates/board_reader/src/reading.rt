@@ -1,6 +1,5 @@
 ghost use Rattle.std.specs.Prelude.{◌≡◌, All, OnOk};
 ghost use Rattle.board_reader.specs.declared.reading.LineError.TheVariants as line_error;
-ghost use Rattle.board_reader.specs.declared.refusals.ReadInput.TheVariants as read_input_error;
 ghost use Rattle.board_reader.specs.Contract.{at_line, TellsReading, TellsStep, TellsLines};
 ghost use Rattle.board_reader.specs.Drafts.{after_form};
 ghost use Rattle.board_reader.specs.Kept.{IsDraft, IsWord};
@@ -9,7 +8,7 @@ ghost use Rattle.board_reader.specs.Passing.{BreaksNone};
 ghost use Rattle.board_reader.specs.Reading.{step, reading_from, reading};
 
 use crate::drafts::Draft;
-use crate::forms::{Form, Stage, form_of};
+use crate::forms::{Form, form_of};
 use crate::inputs::Input;
 use crate::lines::{counts, next_line};
 use crate::refusals::{ReadInput, Refusal, RefusalKind};
@@ -41,14 +40,6 @@ impl LineError {
             LineError::Refused(kind) => ReadInput::Refused(Refusal { line, kind }),
             LineError::NoMemory => ReadInput::NoMemory,
         }
-    }
-}
-
-impl From<NoMemory> for ReadInput {
-    ghost from_gives = { λ _ e. e ≡ read_input_error.NoMemory };
-
-    fn from(_error: NoMemory) -> ReadInput {
-        ReadInput::NoMemory
     }
 }
 
@@ -122,12 +113,8 @@ pub fn read_input(alloc: Global, bytes: &[u8]) -> Result<Input, ReadInput>
     ensures { TellsReading result (reading bytes.now) }
 {
     let mut draft = Draft::new(alloc);
-    let next = draft.read_lines(alloc, bytes)?;
-    match draft.stage {
-        Stage::Commands => Ok(draft.finish(alloc)?),
-        Stage::Start | Stage::Parts => Err(ReadInput::Refused(Refusal {
-            line: next,
-            kind: RefusalKind::NoEnd,
-        })),
+    match draft.read_lines(alloc, bytes) {
+        Ok(next) => draft.end(alloc, next),
+        Err(error) => Err(error),
     }
 }

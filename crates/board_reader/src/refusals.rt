@@ -1,5 +1,8 @@
 ghost use Rattle.std.specs.Prelude.{◌≡◌};
+ghost use Rattle.board_reader.specs.declared.refusals.ReadInput.TheVariants as read_input_error;
 ghost use Rattle.board_reader.specs.Kinds.{number_of_kind};
+
+use geo_rect::NoMemory;
 
 /// What is wrong with a line of the board text.
 #[derive(Clone, Copy, Debug, PartialEq, Eq)]
@@ -51,4 +54,12 @@ pub struct Refusal {
 pub enum ReadInput {
     Refused(Refusal),
     NoMemory,
+}
+
+impl From<NoMemory> for ReadInput {
+    ghost from_gives = { λ _ e. e ≡ read_input_error.NoMemory };
+
+    fn from(_error: NoMemory) -> ReadInput {
+        ReadInput::NoMemory
+    }
 }
