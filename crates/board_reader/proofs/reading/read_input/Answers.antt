@@ -1,0 +1,24 @@
+use Rattle.std.proofs.Common.{◌≡◌, ◌∙◌, subst, sym, ap, Err}
+use Rattle.board_reader.specs.Contract.{TellsReading, TellsLines}
+use Rattle.board_reader.specs.Drafts.{no_draft}
+use Rattle.board_reader.specs.Kept.{IsDraft}
+use Rattle.board_reader.specs.Lines.{lines}
+use Rattle.board_reader.specs.Reading.{reading, reading_from}
+use Rattle.board_reader.proofs.Lining.{lines-error}
+use Rattle.board_reader.proofs.Starting.{empty-draft}
+use Rattle.board_reader.proofs.reading.read_input.Goals as goal
+
+pub read_lines-requires : goal.read_lines-requires
+read_lines-requires c = subst IsDraft (sym c.new-draft.ensures) empty-draft
+
+pub returns-in-Ok : goal.returns-in-Ok
+unfolding reading
+returns-in-Ok c =
+    let all = ap (λ d. reading_from d 1 (lines c.args.bytes.now)) (sym c.new-draft.ensures) ∙ c.in-Ok.ensures.1 in
+    subst (λ r. TellsReading c.end.result r) (sym all) c.end.ensures
+
+pub returns-in-Err : goal.returns-in-Err
+unfolding reading
+returns-in-Err c =
+    let all = ap (λ d. reading_from d 1 (lines c.args.bytes.now)) c.new-draft.ensures in
+    subst (λ r. TellsReading (Err c.in-Err.error) r) all (lines-error c.in-Err.error _ _ c.in-Err.ensures)

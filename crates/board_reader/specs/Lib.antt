@@ -1,0 +1,13 @@
+pub mod Checks
+pub mod Contract
+pub mod Corners
+pub mod Drafts
+pub mod Forms
+pub mod Kinds
+pub mod Kept
+pub mod Lines
+pub mod Names
+pub mod Numbers
+pub mod Passing
+pub mod Reading
+pub mod Tables

@@ -1,0 +1,133 @@
+ghost use Rattle.std.specs.Prelude.{◌≡◌, ◌<◌, ◌^◌, pos, [], length, All, IfOk};
+ghost use Rattle.board_model.specs.Rules.{IsName};
+ghost use Rattle.board_reader.specs.declared.forms.Stage.TheVariants.{Commands};
+ghost use Rattle.board_reader.specs.Contract.{told_by, TellsReading};
+ghost use Rattle.board_reader.specs.Drafts.{parts_of, names_of_draft, tables_of_draft};
+ghost use Rattle.board_reader.specs.Kept.{IsDraft};
+ghost use Rattle.board_reader.specs.Reading.{told, reading_from};
+ghost use Rattle.board_reader.specs.Tables.{table};
+
+use crate::drafts::{Draft};
+use crate::forms::Stage;
+use crate::inputs::Input;
+use crate::refusals::{ReadInput, Refusal, RefusalKind};
+use crate::tables::lay_out;
+use board_model::{Board, BoardParts, Rule};
+use geo_rect::{List, NoMemory, Text};
+use std::alloc::Global;
+
+/// All names of a draft, as lists.
+#[derive(Drop)]
+pub struct NameLists {
+    layers: List<Text>,
+    classes: List<Text>,
+    kinds: List<Text>,
+    nets: List<Text>,
+}
+
+/// The rules and pads of a draft, laid out.
+#[derive(Drop)]
+pub struct Tables {
+    rules: List<Rule>,
+    pads: List<i32>,
+}
+
+/// A length in micrometres as the board holds it.
+fn signed(length: u32) -> i32
+    requires { length < 2 ^ 31 }
+    ensures { result ≡ pos length }
+{
+    length as i32
+}
+
+impl Draft {
+    fn names(&self, alloc: Global) -> Result<NameLists, NoMemory>
+        requires layers { All IsName self.now.layers }
+        requires classes { All IsName self.now.classes }
+        requires kinds { All IsName self.now.kind_names }
+        requires nets { All IsName self.now.net_names }
+        ensures { IfOk result (λ n. n ≡ names_of_draft self.now) }
+    {
+        let layers = self.layers.to_list(alloc)?;
+        let classes = self.classes.to_list(alloc)?;
+        let kinds = self.kind_names.to_list(alloc)?;
+        let nets = self.net_names.to_list(alloc)?;
+        Ok(NameLists {
+            layers,
+            classes,
+            kinds,
+            nets,
+        })
+    }
+
+    fn tables(&self, alloc: Global) -> Result<Tables, NoMemory>
+        ensures { IfOk result (λ t. t ≡ tables_of_draft self.now) }
+    {
+        let rules = self.rule_table(alloc)?;
+        let pads = self.pad_table(alloc)?;
+        Ok(Tables { rules, pads })
+    }
+
+    fn rule_table(&self, alloc: Global) -> Result<List<Rule>, NoMemory>
+        ensures { IfOk result (λ l. l ≡ table self.now.rules (length self.now.layers) (length self.now.classes)) }
+    {
+        let layers = self.layers.len();
+        let classes = self.classes.len();
+        lay_out(alloc, self.rules.as_slice(), layers, classes)
+    }
+
+    fn pad_table(&self, alloc: Global) -> Result<List<i32>, NoMemory>
+        ensures { IfOk result (λ l. l ≡ table self.now.pads (length self.now.kind_names) (length self.now.classes)) }
+    {
+        let kinds = self.kind_names.len();
+        let classes = self.classes.len();
+        lay_out(alloc, self.pads.as_slice(), kinds, classes)
+    }
+
+    /// The board and the commands of a whole text.
+    fn finish(self, alloc: Global) -> Result<Input, NoMemory>
+        requires draft { IsDraft self }
+        requires ended { self.stage ≡ Commands }
+        ensures { IfOk result (λ i. told_by i ≡ told self) }
+    {
+        let names = self.names(alloc)?;
+        let tables = self.tables(alloc)?;
+        let width = signed(self.heading.width);
+        let height = signed(self.heading.height);
+        let parts = BoardParts {
+            name: self.heading.name,
+            width,
+            height,
+            layers: names.layers,
+            classes: names.classes,
+            rules: tables.rules,
+            kind_names: names.kinds,
+            kinds: self.kinds,
+            pads: tables.pads,
+            blocks: self.blocks,
+            net_names: names.nets,
+            net_classes: self.net_classes,
+            pins: self.pins,
+        };
+        let board = Board::build(alloc, parts)?;
+        Ok(Input {
+            board,
+            commands: self.commands,
+        })
+    }
+
+    /// What a text says whose lines are at their end, where `next` is the number that one more line
+    /// would have.
+    pub fn end(self, alloc: Global, next: u64) -> Result<Input, ReadInput>
+        requires { IsDraft self }
+        ensures { TellsReading result (reading_from self next []) }
+    {
+        match self.stage {
+            Stage::Commands => Ok(self.finish(alloc)?),
+            Stage::Start | Stage::Parts => Err(ReadInput::Refused(Refusal {
+                line: next,
+                kind: RefusalKind::NoEnd,
+            })),
+        }
+    }
+}

@@ -1,0 +1,10 @@
+use board_model::{Board, Command};
+use geo_rect::List;
+
+/// What a board text says.
+#[derive(Debug, Drop)]
+pub struct Input {
+    pub board: Board,
+    /// The commands, in the order of the text.
+    pub commands: List<Command>,
+}

@@ -1,0 +1,20 @@
+//! The reader of the board text: a board and its commands, or the first line that breaks a rule.
+#![tactic(auto)]
+
+mod additions;
+mod checks;
+mod drafts;
+mod finishing;
+mod forms;
+mod inputs;
+mod lines;
+mod names;
+mod numbers;
+mod reading;
+mod refusals;
+mod tables;
+mod words;
+
+pub use inputs::Input;
+pub use reading::read_input;
+pub use refusals::{ReadInput, Refusal, RefusalKind};

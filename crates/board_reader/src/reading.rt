@@ -1,0 +1,120 @@
+ghost use Rattle.std.specs.Prelude.{◌≡◌, All, OnOk};
+ghost use Rattle.board_reader.specs.declared.reading.LineError.TheVariants as line_error;
+ghost use Rattle.board_reader.specs.Contract.{at_line, TellsReading, TellsStep, TellsLines};
+ghost use Rattle.board_reader.specs.Drafts.{after_form};
+ghost use Rattle.board_reader.specs.Kept.{IsDraft, IsWord};
+ghost use Rattle.board_reader.specs.Lines.{lines};
+ghost use Rattle.board_reader.specs.Passing.{BreaksNone};
+ghost use Rattle.board_reader.specs.Reading.{step, reading_from, reading};
+
+use crate::drafts::Draft;
+use crate::forms::{Form, form_of};
+use crate::inputs::Input;
+use crate::lines::{counts, next_line};
+use crate::refusals::{ReadInput, Refusal, RefusalKind};
+use crate::words::Words;
+use geo_rect::NoMemory;
+use std::alloc::Global;
+
+/// Why a line was not read.
+#[derive(Clone, Copy, Debug)]
+pub enum LineError {
+    Refused(RefusalKind),
+    NoMemory,
+}
+
+impl From<NoMemory> for LineError {
+    ghost from_gives = { λ _ e. e ≡ line_error.NoMemory };
+
+    fn from(_error: NoMemory) -> LineError {
+        LineError::NoMemory
+    }
+}
+
+impl LineError {
+    /// The same of line number `line` of a text.
+    fn at(self, line: u64) -> ReadInput
+        ensures { result ≡ at_line self line }
+    {
+        match self {
+            LineError::Refused(kind) => ReadInput::Refused(Refusal { line, kind }),
+            LineError::NoMemory => ReadInput::NoMemory,
+        }
+    }
+}
+
+impl Draft {
+    /// Adds what a line of this form and these words says.
+    fn add(&mut self, alloc: Global, form: Form, words: &Words) -> Result<(), NoMemory>
+        requires draft { IsDraft self.old }
+        requires words { All IsWord words.now }
+        requires passes { BreaksNone self.old form words.now }
+        ensures { OnOk result (self.new ≡ after_form self.old form words.now) }
+    {
+        match form {
+            Form::Board => self.add_board(alloc, words),
+            Form::Layer => self.add_layer(alloc, words),
+            Form::Class => self.add_class(alloc, words),
+            Form::Rule => self.add_rule(words),
+            Form::ViaKind => self.add_kind(alloc, words),
+            Form::Pad => self.add_pad(words),
+            Form::Block => self.add_block(words),
+            Form::Net => self.add_net(alloc, words),
+            Form::Pin => self.add_pin(words),
+            Form::End => {
+                self.add_end(words);
+                Ok(())
+            }
+            Form::Rules => self.add_rules(words),
+        }
+    }
+
+    /// Reads one line. After an error the draft is not to be used.
+    fn read_line(&mut self, alloc: Global, line: &[u8]) -> Result<(), LineError>
+        requires { IsDraft self.old }
+        ensures { TellsStep result (step self.old line.now) self.new }
+    {
+        if !counts(line) {
+            return Ok(());
+        }
+        let words = Words::of(alloc, line)?;
+        if let Some(kind) = self.kind_with(line, &words) {
+            return Err(LineError::Refused(kind));
+        }
+        if let Some(form) = form_of(words.get(0)) {
+            self.add(alloc, form, &words)?;
+        }
+        Ok(())
+    }
+
+    /// Reads all lines, and gives the number that one more line would have. After an error the
+    /// draft is not to be used.
+    fn read_lines(&mut self, alloc: Global, text: &[u8]) -> Result<u64, ReadInput>
+        requires { IsDraft self.old }
+        ensures { TellsLines result (reading_from self.old 1 (lines text.now)) self.new }
+    {
+        let mut rest = text;
+        let mut number = 1;
+        while !rest.is_empty() {
+            let (line, after) = next_line(rest);
+            match self.read_line(alloc, line) {
+                Ok(()) => {}
+                Err(error) => return Err(error.at(number)),
+            }
+            rest = after;
+            number += 1;
+        }
+        Ok(number)
+    }
+}
+
+/// Reads a board text: the board and the commands, or the first line that breaks a rule.
+pub fn read_input(alloc: Global, bytes: &[u8]) -> Result<Input, ReadInput>
+    ensures { TellsReading result (reading bytes.now) }
+{
+    let mut draft = Draft::new(alloc);
+    match draft.read_lines(alloc, bytes) {
+        Ok(next) => draft.end(alloc, next),
+        Err(error) => Err(error),
+    }
+}

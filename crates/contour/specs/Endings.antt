@@ -1,0 +1,70 @@
+-- How a call of the program ends: its status, its line, and what shows each ending.
+use Rattle.std.specs.Prelude.{◌≡◌, ℕ, ◌++◌, List, Option, codes, decimal}
+use Rattle.io_edge.specs.Streams.{Rose}
+use Rattle.io_edge.specs.declared.reading.ReadEnd.{ReadEnd}
+use Rattle.io_edge.specs.declared.reading.ReadEnd.TheVariants as read
+use Rattle.board_model.specs.declared.parts.BoardParts.{BoardParts}
+use Rattle.board_model.specs.declared.commands.Command.{Command}
+use Rattle.board_reader.specs.declared.refusals.Refusal.{Refusal}
+use Rattle.board_reader.specs.declared.refusals.ReadInput.{ReadInput}
+use Rattle.board_reader.specs.declared.refusals.ReadInput.TheVariants as input
+use Rattle.board_reader.specs.Kinds.{number_of_kind}
+use Rattle.contour.specs.declared.endings.Ending.{Ending}
+use Rattle.contour.specs.declared.endings.Ending.TheVariants.{BadWords, TooLong, Refused, ReadFault, WriteFault, NoMemory}
+use Rattle.contour.specs.declared.endings.Status.{Status}
+use Rattle.contour.specs.declared.endings.Status.TheVariants as status
+use Rattle.contour.specs.Answers.{AnswersPart, AnswersFirst, IsCutShort}
+use Rattle.contour.specs.Inputs.{IfTold, IsTooLong, IsRefusedAs}
+
+abbrev pub status_of : Ending → Status
+status_of BadWords = status.BadWords
+status_of TooLong = status.BadInput
+status_of (Refused r) = status.BadInput
+status_of ReadFault = status.ReadFault
+status_of WriteFault = status.WriteFault
+status_of NoMemory = status.NoMemory
+
+abbrev pub ending_of_reading : ReadEnd → Ending
+ending_of_reading read.TooLong = TooLong
+ending_of_reading read.ReadFault = ReadFault
+ending_of_reading read.NoMemory = NoMemory
+
+abbrev pub ending_of_input : ReadInput → Ending
+ending_of_input (input.Refused r) = Refused r
+ending_of_input input.NoMemory = NoMemory
+
+-- the line that is written on an ending
+abbrev pub line_of : Ending → List ℕ
+line_of BadWords = codes "usage: contour run [--quiet] / check / gen N / demo N\n"
+line_of TooLong = codes "too long\n"
+line_of (Refused r) = codes "line " ++ decimal r.line ++ codes " kind " ++ decimal (number_of_kind r.kind) ++ codes "\n"
+line_of ReadFault = codes "read fault\n"
+line_of WriteFault = codes "write fault\n"
+line_of NoMemory = codes "no memory\n"
+
+-- what shows that reading an input ended so, from what the source had left and its counts of faults before and after
+abbrev pub EndsReading : Option (List ℕ) → ℕ → ℕ → Ending → Type 0
+EndsReading left before after BadWords = ⊥
+EndsReading left before after TooLong = IfTold left IsTooLong
+EndsReading left before after (Refused r) = IfTold left (IsRefusedAs r)
+EndsReading left before after ReadFault = Rose before after
+EndsReading left before after WriteFault = ⊥
+EndsReading left before after NoMemory = Unit {0}
+
+-- what shows that one reply ended so, from what the sink held and its counts of faults before and after
+abbrev pub EndsAnswer : BoardParts → Command → Option (List ℕ) → Option (List ℕ) → ℕ → ℕ → Ending → Type 0
+EndsAnswer b c held holds before after BadWords = ⊥
+EndsAnswer b c held holds before after TooLong = ⊥
+EndsAnswer b c held holds before after (Refused r) = ⊥
+EndsAnswer b c held holds before after ReadFault = ⊥
+EndsAnswer b c held holds before after WriteFault = Rose before after × AnswersPart b c held holds
+EndsAnswer b c held holds before after NoMemory = holds ≡ held
+
+-- what shows that the replies ended so
+abbrev pub EndsAnswers : BoardParts → List Command → Option (List ℕ) → Option (List ℕ) → ℕ → ℕ → Ending → Type 0
+EndsAnswers b cs held holds before after BadWords = ⊥
+EndsAnswers b cs held holds before after TooLong = ⊥
+EndsAnswers b cs held holds before after (Refused r) = ⊥
+EndsAnswers b cs held holds before after ReadFault = ⊥
+EndsAnswers b cs held holds before after WriteFault = Rose before after × IsCutShort b cs held holds
+EndsAnswers b cs held holds before after NoMemory = AnswersFirst b cs held holds

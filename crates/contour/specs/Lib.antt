@@ -1,0 +1,6 @@
+pub mod Answers
+pub mod Causes
+pub mod Endings
+pub mod Inputs
+pub mod Replies
+pub mod Requests

@@ -1,0 +1,117 @@
+ghost use Rattle.std.specs.Prelude.{◌≡◌, ◌≤◌, ◌↔◌, ◌⊎◌, [], map, string_bytes, OnOk, IfErr};
+ghost use Rattle.io_edge.specs.Streams.{Rose, IsToldAs};
+ghost use Rattle.contour.specs.Causes.{AnswersInput, AnswersNoneOrFirst, CutsInputShort, EndsCall, IsBeforeReplies, IsUnwritten, TellsStatus};
+ghost use Rattle.contour.specs.Inputs.{IfTold, IsToldAnd, IsAccepted, IsRefused};
+ghost use Rattle.contour.specs.Requests.{IsRequest, IsNoRequest};
+
+use io_edge::{Sink, Source};
+use std::alloc::Global;
+
+use crate::answers::answer_all;
+use crate::endings::{Ending, Status};
+use crate::inputs::read_text;
+use crate::lines::tell;
+use crate::requests::{Request, request_of};
+
+/// Reads a board text and writes the reply to each of its commands.
+fn run<S: Source, K: Sink>(alloc: Global, source: &mut S, out: &mut K) -> Result<(), Ending>
+    ensures done { OnOk result (IfTold (S.left source.old) (AnswersInput (K.written out.old) (K.written out.new))) }
+    ensures end { OnOk result (IsToldAs (S.left source.new) []) }
+    ensures err { IfErr result (EndsCall (S.left source.old) (S.faults source.old) (S.faults source.new)
+        (K.written out.old) (K.written out.new) (K.faults out.old) (K.faults out.new)) }
+    ensures words { IfErr result (λ e. e ≡ Ending.BadWords → ⊥) }
+    ensures unwritten { IfErr result (λ e. IsBeforeReplies e → out.new ≡ out.old) }
+    ensures source_setup { S.setup source.new ≡ S.setup source.old }
+    ensures sink_setup { K.setup out.new ≡ K.setup out.old }
+{
+    let input = read_text(alloc, source)?;
+    answer_all(alloc, &input.board, input.commands.as_slice(), out)
+}
+
+/// Does what the words ask for.
+fn attempt<S: Source, K: Sink>(
+    alloc: Global,
+    words: &[String],
+    source: &mut S,
+    out: &mut K,
+) -> Result<(), Ending>
+    ensures request { OnOk result (IsNoRequest (map string_bytes words.now) → ⊥) }
+    ensures done { OnOk result (IfTold (S.left source.old) (AnswersInput (K.written out.old) (K.written out.new))) }
+    ensures end { OnOk result (IsToldAs (S.left source.new) []) }
+    ensures err { IfErr result (EndsCall (S.left source.old) (S.faults source.old) (S.faults source.new)
+        (K.written out.old) (K.written out.new) (K.faults out.old) (K.faults out.new)) }
+    ensures words { IfErr result (λ e. (e ≡ Ending.BadWords) ↔ IsNoRequest (map string_bytes words.now)) }
+    ensures unread { IfErr result (λ e. e ≡ Ending.BadWords → source.new ≡ source.old) }
+    ensures unwritten { IfErr result (λ e. IsBeforeReplies e → out.new ≡ out.old) }
+    ensures source_setup { S.setup source.new ≡ S.setup source.old }
+    ensures sink_setup { K.setup out.new ≡ K.setup out.old }
+{
+    match request_of(words) {
+        Some(Request::Run) => run(alloc, source, out),
+        None => Err(Ending::BadWords),
+    }
+}
+
+/// The program. It reads what the words ask for from `source`, writes the replies to `out`, and, on
+/// each status but `Done`, one line to `err`. `words` are the words of the command line without the
+/// program's own name.
+///
+/// A fault of `err` changes no status. Of an input, what is said here holds where the source tells
+/// its bytes, and of an output where the sink tells its own.
+pub fn contour<S: Source, K: Sink, E: Sink>(
+    alloc: Global,
+    words: &[String],
+    source: &mut S,
+    out: &mut K,
+    err: &mut E,
+) -> Status
+    // All was read: a board text, to the end of the source. Its replies were written and nothing else.
+    ensures done { result ≡ Status.Done
+        → IfTold (S.left source.old) (AnswersInput (K.written out.old) (K.written out.new)) }
+    ensures end { result ≡ Status.Done → IsToldAs (S.left source.new) [] }
+
+    // The words are no request, and nothing was read or written.
+    ensures bad_words { (result ≡ Status.BadWords) ↔ IsNoRequest (map string_bytes words.now) }
+    ensures unread { result ≡ Status.BadWords → source.new ≡ source.old }
+
+    // The input is too long or no board text. Each fault is one of the stream that is named.
+    ensures bad_input { result ≡ Status.BadInput → IfTold (S.left source.old) IsRefused }
+    ensures read_fault { result ≡ Status.ReadFault → Rose (S.faults source.old) (S.faults source.new) }
+    ensures write_fault { result ≡ Status.WriteFault → Rose (K.faults out.old) (K.faults out.new) }
+    ensures never_wrong { result ≡ Status.Wrong → ⊥ }
+
+    // What was written when the call ended early: nothing, or whole replies to the first commands,
+    // and at a fault of the output then a part of the next.
+    ensures unwritten { IsUnwritten result → out.new ≡ out.old }
+    ensures cut_short { result ≡ Status.WriteFault
+        → IfTold (S.left source.old) (CutsInputShort (K.written out.old) (K.written out.new)) }
+    ensures no_memory { result ≡ Status.NoMemory
+        → IfTold (S.left source.old) (AnswersNoneOrFirst (K.written out.old) (K.written out.new)) }
+
+    // An input that is not accepted is refused, and one that is accepted is answered, where no
+    // stream has a fault and there is memory.
+    ensures refuses { IsRequest (map string_bytes words.now) → IsToldAnd (S.left source.old) IsRefused
+        → (Rose (S.faults source.old) (S.faults source.new) → ⊥)
+        → (result ≡ Status.BadInput) ⊎ (result ≡ Status.NoMemory) }
+    ensures complete { IsRequest (map string_bytes words.now) → IsToldAnd (S.left source.old) IsAccepted
+        → (Rose (S.faults source.old) (S.faults source.new) → ⊥)
+        → (Rose (K.faults out.old) (K.faults out.new) → ⊥)
+        → (result ≡ Status.Done) ⊎ (result ≡ Status.NoMemory) }
+
+    // What no call changes of the two streams.
+    ensures source_setup { S.setup source.new ≡ S.setup source.old }
+    ensures sink_setup { K.setup out.new ≡ K.setup out.old }
+
+    // The line on `err`.
+    ensures quiet { result ≡ Status.Done → err.new ≡ err.old }
+    ensures line { (result ≡ Status.Done → ⊥) → TellsStatus result (S.left source.old)
+        (E.written err.old) (E.written err.new) (E.faults err.old) (E.faults err.new) }
+{
+    match attempt(alloc, words, source, out) {
+        Ok(()) => Status::Done,
+        Err(ending) => {
+            tell(alloc, ending, err);
+            ending.status()
+        }
+    }
+}

@@ -1,0 +1,31 @@
+ghost use Rattle.std.specs.Prelude.{◌≡◌, ◌+◌, ◌≤◌, ◌⊎◌, [], map, string_bytes, drop, length};
+ghost use Rattle.contour.specs.Inputs.{IsAccepted, IsRefused};
+ghost use Rattle.contour.specs.Requests.{IsRequest};
+
+use io_edge::{MemSink, MemSource, Sink};
+use std::alloc::Global;
+
+use crate::calls::contour;
+use crate::endings::Status;
+
+/// The program over streams in memory with no failing call, and with room for what it writes and
+/// one piece more. Their counts of faults stay, so an accepted input is answered, and another one
+/// refused, unless there is no memory.
+pub fn contour_in_memory<E: Sink>(
+    alloc: Global,
+    words: &[String],
+    source: &mut MemSource,
+    out: &mut MemSink,
+    err: &mut E,
+) -> Status
+    requires request { IsRequest (map string_bytes words.now) }
+    requires sound_source { source.old.fails ≡ [] }
+    requires sound_sink { out.old.fails ≡ [] }
+    ensures refuses { IsRefused (drop source.old.place source.old.bytes)
+        → (result ≡ Status.BadInput) ⊎ (result ≡ Status.NoMemory) }
+    ensures complete { IsAccepted (drop source.old.place source.old.bytes)
+        → length out.new.held.items + out.new.most ≤ out.new.room
+        → (result ≡ Status.Done) ⊎ (result ≡ Status.NoMemory) }
+{
+    contour(alloc, words, source, out, err)
+}

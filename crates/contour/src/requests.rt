@@ -1,0 +1,21 @@
+ghost use Rattle.std.specs.Prelude.{◌≡◌, map, string_bytes, IfSome, IfNone};
+ghost use Rattle.contour.specs.Requests.{words_of, IsNoRequest};
+
+/// What the program is asked to do.
+#[derive(Clone, Copy, Debug, PartialEq, Eq)]
+pub enum Request {
+    /// Read a board text and write the reply to each of its commands.
+    Run,
+}
+
+/// The request that these words make, the words of the command line without the program's own name.
+/// `None` where they make none. It takes no memory.
+pub fn request_of(words: &[String]) -> Option<Request>
+    ensures some { IfSome result (λ r. words_of r ≡ map string_bytes words.now) }
+    ensures none { IfNone result (IsNoRequest (map string_bytes words.now)) }
+{
+    match words {
+        [word] if word.as_str() == "run" => Some(Request::Run),
+        _ => None,
+    }
+}
