@@ -11,3 +11,4 @@ pub mod Numbers
 pub mod Passing
 pub mod Reading
 pub mod Tables
+pub mod Built

@@ -1,5 +1,6 @@
-ghost use Rattle.std.specs.Prelude.{◌≡◌, All, OnOk};
+ghost use Rattle.std.specs.Prelude.{IfOk, All, ◌≡◌, OnOk};
 ghost use Rattle.board_reader.specs.declared.reading.LineError.TheVariants as line_error;
+ghost use Rattle.board_reader.specs.Built.{HasForm};
 ghost use Rattle.board_reader.specs.Contract.{at_line, TellsReading, TellsStep, TellsLines};
 ghost use Rattle.board_reader.specs.Drafts.{after_form};
 ghost use Rattle.board_reader.specs.Kept.{IsDraft, IsWord};
@@ -110,7 +111,8 @@ impl Draft {
 
 /// Reads a board text: the board and the commands, or the first line that breaks a rule.
 pub fn read_input(alloc: Global, bytes: &[u8]) -> Result<Input, ReadInput>
-    ensures { TellsReading result (reading bytes.now) }
+    ensures reading { TellsReading result (reading bytes.now) }
+    ensures forms { IfOk result (λ i. All HasForm i.commands) }
 {
     let mut draft = Draft::new(alloc);
     match draft.read_lines(alloc, bytes) {
