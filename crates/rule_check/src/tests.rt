@@ -2,6 +2,7 @@ use crate::checks::violations;
 use board_model::{Block, Board, BoardParts, Made, Owned, Pin, Rule, Violation};
 use geo_rect::{ClassId, LayerId, List, NetId, NoMemory, Rect, Text};
 use std::alloc::Global;
+use std::process::Abort;
 use std::test::Fail;
 
 const TOP: LayerId = LayerId(0);
@@ -12,34 +13,53 @@ fn one_name(alloc: Global, name: &str) -> Result<List<Text>, NoMemory> {
     Ok(list)
 }
 
-fn empty_board(alloc: Global) -> Result<BoardParts, NoMemory> {
+fn net_names(alloc: Global) -> Result<List<Text>, NoMemory> {
+    let mut list = one_name(alloc, "a")?;
+    list.push(Text::from_str(alloc, "b")?)?;
+    Ok(list)
+}
+
+/// 40 by 20, with one layer, one class of half width 1 and gap 2, and the nets a and b.
+fn small_board(
+    alloc: Global,
+    blocks: List<Block>,
+    pins: List<Pin>,
+) -> Result<BoardParts, NoMemory> {
     Ok(BoardParts {
         name: Text::from_str(alloc, "small")?,
         width: 40,
         height: 20,
-        layers: List::new(alloc),
-        classes: List::new(alloc),
-        rules: List::new(alloc),
+        layers: one_name(alloc, "top")?,
+        classes: one_name(alloc, "thin")?,
+        rules: List::from_slice(alloc, &[Rule { half: 1, gap: 2 }])?,
         kind_names: List::new(alloc),
         kinds: List::new(alloc),
         pads: List::new(alloc),
-        blocks: List::new(alloc),
-        net_names: List::new(alloc),
-        net_classes: List::new(alloc),
-        pins: List::new(alloc),
+        blocks,
+        net_names: net_names(alloc)?,
+        net_classes: List::from_slice(alloc, &[ClassId(0), ClassId(0)])?,
+        pins,
     })
 }
 
-/// 40 by 20, with one layer, one class of half width 1 and gap 2, and the nets a and b.
-fn small_board(alloc: Global) -> Result<BoardParts, NoMemory> {
-    let mut parts = empty_board(alloc)?;
-    parts.layers = one_name(alloc, "top")?;
-    parts.classes = one_name(alloc, "thin")?;
-    parts.rules = List::from_slice(alloc, &[Rule { half: 1, gap: 2 }])?;
-    parts.net_names = one_name(alloc, "a")?;
-    parts.net_names.push(Text::from_str(alloc, "b")?)?;
-    parts.net_classes = List::from_slice(alloc, &[ClassId(0), ClassId(0)])?;
-    Ok(parts)
+fn build(rt: &impl Abort, alloc: Global, parts: BoardParts) -> Result<Board, NoMemory> {
+    assert!(rt; parts.is_board());
+    Board::build(alloc, parts)
+}
+
+/// The violations of the small board with these blockages and pins.
+fn found(
+    rt: &impl Abort,
+    alloc: Global,
+    blocks: &[Block],
+    pins: &[Pin],
+) -> Result<List<Violation>, NoMemory> {
+    let blocks = List::from_slice(alloc, blocks)?;
+    let pins = List::from_slice(alloc, pins)?;
+    let parts = small_board(alloc, blocks, pins)?;
+    let board = build(rt, alloc, parts)?;
+    let made = Made::none(alloc, &board)?;
+    violations(alloc, &board, &made)
 }
 
 fn block() -> Block {
@@ -69,35 +89,23 @@ fn named(pin: Pin) -> Owned {
 fn close_to_a_block_and_a_pin(rt: HostRuntime) -> Result<(), Fail> {
     let a = pin(0, 23, 5);
     let b = pin(1, 24, 5);
-    let mut parts = small_board(rt.alloc())?;
-    parts.blocks = List::from_slice(rt.alloc(), &[block()])?;
-    parts.pins = List::from_slice(rt.alloc(), &[a, b])?;
-    assert!(rt; parts.is_board());
-    let board = Board::build(rt.alloc(), parts)?;
-    let made = Made::none(rt.alloc(), &board)?;
-    let found = violations(rt.alloc(), &board, &made)?;
     let blocked = Owned {
         owner: None,
         area: block().area,
     };
+    let list = found(&rt, rt.alloc(), &[block()], &[a, b])?;
     let expected = [
         Violation::Close(TOP, blocked, named(a)),
         Violation::Close(TOP, named(a), named(b)),
     ];
-    assert_eq!(rt; found.as_slice(), expected.as_slice());
+    assert_eq!(rt; list.as_slice(), expected.as_slice());
     Ok(())
 }
 
 #[test]
 fn far_enough(rt: HostRuntime) -> Result<(), Fail> {
-    let mut parts = small_board(rt.alloc())?;
-    parts.blocks = List::from_slice(rt.alloc(), &[block()])?;
-    parts.pins = List::from_slice(rt.alloc(), &[pin(0, 24, 5), pin(1, 26, 5)])?;
-    assert!(rt; parts.is_board());
-    let board = Board::build(rt.alloc(), parts)?;
-    let made = Made::none(rt.alloc(), &board)?;
-    let found = violations(rt.alloc(), &board, &made)?;
-    assert!(rt; found.is_empty());
+    let list = found(&rt, rt.alloc(), &[block()], &[pin(0, 24, 5), pin(1, 26, 5)])?;
+    assert!(rt; list.is_empty());
     Ok(())
 }
 
@@ -105,13 +113,8 @@ fn far_enough(rt: HostRuntime) -> Result<(), Fail> {
 fn two_pins_alone(rt: HostRuntime) -> Result<(), Fail> {
     let a = pin(0, 19, 9);
     let b = pin(1, 20, 9);
-    let mut parts = small_board(rt.alloc())?;
-    parts.pins = List::from_slice(rt.alloc(), &[a, b, pin(1, 30, 9)])?;
-    assert!(rt; parts.is_board());
-    let board = Board::build(rt.alloc(), parts)?;
-    let made = Made::none(rt.alloc(), &board)?;
-    let found = violations(rt.alloc(), &board, &made)?;
+    let list = found(&rt, rt.alloc(), &[], &[a, b, pin(1, 30, 9)])?;
     let expected = [Violation::Close(TOP, named(a), named(b))];
-    assert_eq!(rt; found.as_slice(), expected.as_slice());
+    assert_eq!(rt; list.as_slice(), expected.as_slice());
     Ok(())
 }
