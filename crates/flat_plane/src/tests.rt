@@ -1,5 +1,6 @@
 ghost use Rattle.std.specs.Prelude.{◌↔◌, IsTrue};
 ghost use Rattle.geo_rect.specs.Plane.{LiesIn};
+ghost use Rattle.plane_core.specs.Labels.{IsSmall};
 
 use crate::FlatPlane;
 use crate::checks::has_point;
@@ -49,6 +50,12 @@ fn strips(rt: &impl Abort, alloc: Global, rows: &[Row]) -> Result<List<Strip>, N
         list.push(strip(rt, *row))?;
     }
     Ok(list)
+}
+
+fn fresh<P: Plane>(alloc: Global, domain: Rect) -> Result<P, NoMemory>
+    requires { IsSmall domain }
+{
+    P::new(alloc, domain)
 }
 
 fn paint_all<P: Plane>(
@@ -170,7 +177,7 @@ fn paints_that_overlap_and_vanish(rt: HostRuntime) -> Result<(), Fail> {
 #[test]
 fn a_square_and_its_four_sides(rt: HostRuntime) -> Result<(), Fail> {
     let alloc = rt.alloc();
-    let plane = FlatPlane::new(alloc, Rect::new(0, 0, 9, 9))?;
+    let plane: FlatPlane = fresh(alloc, Rect::new(0, 0, 9, 9))?;
     let square = paint_all(&rt, alloc, plane, [(OTHER, 3, 3, 6, 6)].as_slice())?;
     let at = Point { x: 4, y: 5 };
     assert!(rt; has_point(square.domain(), at));
