@@ -3,6 +3,8 @@
 
 mod additions;
 mod checks;
+#[cfg(test)]
+mod connector;
 mod drafts;
 mod finishing;
 mod forms;
@@ -18,3 +20,6 @@ mod words;
 pub use inputs::Input;
 pub use reading::read_input;
 pub use refusals::{ReadInput, Refusal, RefusalKind};
+
+#[cfg(test)]
+mod tests;
