@@ -3,13 +3,12 @@ ghost use Rattle.board_reader.specs.Built.{HasForm};
 ghost use Rattle.contour.specs.Answers.{nothing_made, AnswersOne, AnswersAll};
 ghost use Rattle.contour.specs.Endings.{EndsAnswer, EndsAnswers};
 
+use crate::endings::Ending;
+use crate::replies::print_rules;
 use board_model::{Board, Command, Made};
 use io_edge::{Sink, write_all};
 use rule_check::violations;
 use std::alloc::Global;
-
-use crate::endings::Ending;
-use crate::replies::print_rules;
 
 /// Makes the reply to one command and writes it.
 fn answer<K: Sink>(

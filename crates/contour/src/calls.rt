@@ -4,14 +4,13 @@ ghost use Rattle.contour.specs.Causes.{AnswersInput, AnswersNoneOrFirst, CutsInp
 ghost use Rattle.contour.specs.Inputs.{IfTold, IsToldAnd, IsAccepted, IsRefused};
 ghost use Rattle.contour.specs.Requests.{IsRequest, IsNoRequest};
 
-use io_edge::{Sink, Source};
-use std::alloc::Global;
-
 use crate::answers::answer_all;
 use crate::endings::{Ending, Status};
 use crate::inputs::read_text;
 use crate::lines::tell;
 use crate::requests::{Request, request_of};
+use io_edge::{Sink, Source};
+use std::alloc::Global;
 
 /// Reads a board text and writes the reply to each of its commands.
 fn run<S: Source, K: Sink>(alloc: Global, source: &mut S, out: &mut K) -> Result<(), Ending>

@@ -2,11 +2,10 @@ ghost use Rattle.std.specs.Prelude.{◌≡◌, ◌+◌, ◌≤◌, ◌⊎◌, []
 ghost use Rattle.contour.specs.Inputs.{IsAccepted, IsRefused};
 ghost use Rattle.contour.specs.Requests.{IsRequest};
 
-use io_edge::{MemSink, MemSource, Sink};
-use std::alloc::Global;
-
 use crate::calls::contour;
 use crate::endings::Status;
+use io_edge::{MemSink, MemSource, Sink};
+use std::alloc::Global;
 
 /// The program over streams in memory with no failing call, and with room for what it writes and
 /// one piece more. Their counts of faults stay, so an accepted input is answered, and another one

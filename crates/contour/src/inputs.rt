@@ -5,11 +5,10 @@ ghost use Rattle.board_reader.specs.Contract.{told_by};
 ghost use Rattle.contour.specs.Endings.{EndsReading};
 ghost use Rattle.contour.specs.Inputs.{IfTold, IsAcceptedAs};
 
+use crate::endings::Ending;
 use board_reader::{Input, read_input};
 use io_edge::{Source, read_all};
 use std::alloc::Global;
-
-use crate::endings::Ending;
 
 /// The most bytes that the program reads: 2^28.
 pub const MAX_INPUT: usize = 268_435_456;

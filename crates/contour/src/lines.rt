@@ -3,13 +3,12 @@ ghost use Rattle.smallvec.specs.SmallVec.{HasRoomFor};
 ghost use Rattle.contour.specs.Endings.{line_of};
 ghost use Rattle.contour.specs.Causes.{TellsLine};
 
+use crate::endings::Ending;
 use board_reader::Refusal;
 use io_edge::{Sink, write_all};
 use itoa::Buffer;
 use smallvec::SmallVec;
 use std::alloc::Global;
-
-use crate::endings::Ending;
 
 /// Room for the one line on standard error, which so takes no memory.
 type Line = SmallVec<u8, 64>;
@@ -54,7 +53,10 @@ fn line(alloc: Global, ending: Ending) -> Line
     ensures { result.items ≡ line_of ending }
 {
     match ending {
-        Ending::BadWords => fixed_line(alloc, b"usage: contour run [--quiet] / check / gen N / demo N\n"),
+        Ending::BadWords => fixed_line(
+            alloc,
+            b"usage: contour run [--quiet] / check / gen N / demo N\n",
+        ),
         Ending::TooLong => fixed_line(alloc, b"too long\n"),
         Ending::Refused(refusal) => refusal_line(alloc, refusal),
         Ending::ReadFault => fixed_line(alloc, b"read fault\n"),

@@ -13,16 +13,14 @@ mod requests;
 mod tests;
 mod texts;
 
+use crate::calls::contour;
+use crate::endings::Status;
 use geo_rect::NoMemory;
 use io_edge::{ReadSource, WriteSink};
 use std::alloc::AllocError;
-use std::env;
-use std::io;
 use std::process::ExitCode;
 use std::rt::Env;
-
-use crate::calls::contour;
-use crate::endings::Status;
+use std::{env, io};
 
 /// The words of the command line without the program's own name. Where they cannot be had for
 /// another cause than memory, as where one is no UTF-8, there are none.
@@ -50,6 +48,12 @@ fn main(rt: HostRuntime) -> ExitCode {
         inner: rt.stderr(),
         failed: 0,
     };
-    let status = contour(rt.alloc(), words.as_slice(), &mut source, &mut out, &mut err);
+    let status = contour(
+        rt.alloc(),
+        words.as_slice(),
+        &mut source,
+        &mut out,
+        &mut err,
+    );
     ExitCode::from(status as u8)
 }

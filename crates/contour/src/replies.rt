@@ -3,11 +3,10 @@ ghost use Rattle.board_model.specs.Known.{IsOwner};
 ghost use Rattle.rule_check.specs.Known.{NamesKnown};
 ghost use Rattle.contour.specs.Replies.{area_text, owner_text, owned_text, violation_text, rules_text};
 
+use crate::texts::{push_bytes, push_coordinate, push_count};
 use board_model::{Board, Owned, Violation};
 use geo_rect::{LayerId, NetId, NoMemory, Rect};
 use std::alloc::Global;
-
-use crate::texts::{push_bytes, push_coordinate, push_count};
 
 fn push_area(text: &mut Vec<u8>, area: Rect) -> Result<(), NoMemory>
     ensures { OnOk result (text.new.items ≡ text.old.items ++ area_text area) }
@@ -62,7 +61,12 @@ fn push_close(
     push_bytes(text, b"\n")
 }
 
-fn push_outline(text: &mut Vec<u8>, board: &Board, layer: LayerId, shape: &Owned) -> Result<(), NoMemory>
+fn push_outline(
+    text: &mut Vec<u8>,
+    board: &Board,
+    layer: LayerId,
+    shape: &Owned,
+) -> Result<(), NoMemory>
     requires { NamesKnown board.now.parts (Violation.Outline layer shape.now) }
     ensures { OnOk result (text.new.items ≡ text.old.items ++ violation_text board.now.parts (Violation.Outline layer shape.now)) }
 {

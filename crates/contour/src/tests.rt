@@ -1,13 +1,12 @@
 //! The program over streams in memory: texts and answers that were worked out by hand.
 
+use crate::calls::contour;
+use crate::endings::Status;
+use crate::in_memory::contour_in_memory;
 use io_edge::{MemSink, MemSource};
 use std::alloc::Global;
 use std::process::Abort;
 use std::test::Fail;
-
-use crate::calls::contour;
-use crate::endings::Status;
-use crate::in_memory::contour_in_memory;
 
 const PLAIN: &str = "board 1 demo 40 20
 layer top
@@ -86,7 +85,13 @@ fn expect(
     let mut output = MemSink::new(alloc, 4096, 4096, &[])?;
     let mut errors = MemSink::new(alloc, 4096, 4096, &[])?;
     let words = words_of(alloc, words)?;
-    let ended = contour(alloc, words.as_slice(), &mut source, &mut output, &mut errors);
+    let ended = contour(
+        alloc,
+        words.as_slice(),
+        &mut source,
+        &mut output,
+        &mut errors,
+    );
     assert_eq!(rt; ended, status, "on {text}");
     assert_eq!(rt; output.held.as_slice(), out.as_bytes(), "on {text}");
     assert_eq!(rt; errors.held.as_slice(), err.as_bytes(), "on {text}");
@@ -108,7 +113,14 @@ fn the_rules_are_answered(rt: HostRuntime) -> Result<(), Fail> {
     // As often as is asked, and never where it is not.
     let mut twice = with_line(alloc, PLAIN, 1, "board 1 demo 40 20")?;
     twice.push_str("# again\n\nrules")?;
-    expect(&rt, &run, twice.as_str(), Status::Done, "rules 0\nrules 0\n", "")?;
+    expect(
+        &rt,
+        &run,
+        twice.as_str(),
+        Status::Done,
+        "rules 0\nrules 0\n",
+        "",
+    )?;
     let never = first_lines(alloc, PLAIN, 9)?;
     expect(&rt, &run, never.as_str(), Status::Done, "", "")
 }
@@ -133,7 +145,14 @@ fn a_refused_text_is_named_by_its_line(rt: HostRuntime) -> Result<(), Fail> {
         expect(&rt, &["run"], text.as_str(), Status::BadInput, "", err)?;
     }
     let cut = first_lines(alloc, PLAIN, 8)?;
-    expect(&rt, &["run"], cut.as_str(), Status::BadInput, "", "line 9 kind 9\n")?;
+    expect(
+        &rt,
+        &["run"],
+        cut.as_str(),
+        Status::BadInput,
+        "",
+        "line 9 kind 9\n",
+    )?;
     expect(&rt, &["run"], "", Status::BadInput, "", "line 1 kind 9\n")
 }
 
