@@ -123,7 +123,7 @@ pub passed : (d : Draft) (line : List ℕ) (o : Option Form) → counts line ≡
 unfolding step
 passed d line o e k f = cond-true _ _ _ e ∙ (ap (λ q. unless q (after_line d line)) k ∙ ap (λ q. Ok (after_words d q (words line))) f)
 
-cases_option : {X : Type 0} (o : Option X) → (o ≡ None) ⊎ ((x : X) × (o ≡ Some x))
+pub cases_option : {X : Type 0} (o : Option X) → (o ≡ None) ⊎ ((x : X) × (o ≡ Some x))
 cases_option None = inl refl
 cases_option (Some x) = inr (x, refl)
 

@@ -5,6 +5,7 @@ pub mod Drafts
 pub mod Forms
 pub mod Kinds
 pub mod Kept
+pub mod Law
 pub mod Lines
 pub mod Names
 pub mod Numbers

@@ -9,6 +9,7 @@ mod drafts;
 mod finishing;
 mod forms;
 mod inputs;
+mod laws;
 mod lines;
 mod names;
 mod numbers;
@@ -18,6 +19,7 @@ mod tables;
 mod words;
 
 pub use inputs::Input;
+pub use laws::refusals_are_first;
 pub use reading::read_input;
 pub use refusals::{ReadInput, Refusal, RefusalKind};
 

@@ -21,7 +21,7 @@ const LINES: [&str; 10] = [
 fn changed(alloc: Global, number: usize, text: &str) -> Result<Vec<u8>, AllocError> {
     let mut bytes = Vec::new(alloc);
     for (index, line) in LINES.iter().enumerate() {
-        if index == number - 1 {
+        if index + 1 == number {
             bytes.extend_from_slice(text.as_bytes())?;
         } else {
             bytes.extend_from_slice(line.as_bytes())?;
