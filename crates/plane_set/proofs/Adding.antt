@@ -51,9 +51,9 @@ module _ (rule : PlaneRule) (s : Shape) where
   plane_joined old new domain hit area e hits meet region h plane = record {
     region = region;
     labels = λ p inside.
-      by_hit p (label_of new.strips p ≡ with_shape rule p (label_of old.strips p) s)
-      (λ k. h.within p (meet.all p (subst (λ (r : Rect). HasPoint r p) (sym e) inside) ((hits p).1 k)) ∙ sym (with_hit p (label_of old.strips p) k))
-      (λ n. h.elsewhere p inside (λ a. n ((hits p).0 (meet.second p a))) ∙ sym (with_miss p (label_of old.strips p) n));
+        by_hit p (label_of new.strips p ≡ with_shape rule p (label_of old.strips p) s)
+        (λ k. h.within p (meet.all p (subst (λ (r : Rect). HasPoint r p) (sym e) inside) ((hits p).1 k)) ∙ sym (with_hit p (label_of old.strips p) k))
+        (λ n. h.elsewhere p inside (λ a. n ((hits p).0 (meet.second p a))) ∙ sym (with_miss p (label_of old.strips p) n));
     canonical = plane;
   }
 
@@ -65,8 +65,8 @@ pub shows_more : (b : BoardParts) (rule : PlaneRule) (shapes : List Shape) (s : 
 shows_more b rule shapes s old new more h = record {
   region = subst (λ (r : Rect). IsBoardArea b r) (sym more.region) h.region;
   labels = λ p inside.
-    let old_inside : HasPoint old.region p = subst (λ (r : Rect). HasPoint r p) more.region inside in
-    more.labels p old_inside ∙ ap (λ (a : Label). with_shape rule p a s) (h.labels p old_inside) ∙ sym (label_among-push b rule p shapes s);
+      let old_inside : HasPoint old.region p = subst (λ (r : Rect). HasPoint r p) more.region inside in
+      more.labels p old_inside ∙ ap (λ (a : Label). with_shape rule p a s) (h.labels p old_inside) ∙ sym (label_among-push b rule p shapes s);
   canonical = more.canonical;
 }
 

@@ -117,11 +117,11 @@ module _ (b : BoardParts) (rule : PlaneRule) (half : ℤ) (same : half ≡ rule.
       record {
         region = subst (λ (r : Rect). IsBoardArea b r) (sym whole) board;
         labels = λ p h.
-          let on_area : HasPoint area p = subst (λ (r : Rect). HasPoint r p) whole h in
-          let on_old : HasPoint old.region p = subst (λ (r : Rect). HasPoint r p) kept h in
-          elim (others p (board_point b area p board on_area)) [
-            | inl any ↦ barred.within p (any_one edges p any) ∙ sym (label_among-nil_leaves b rule p (λ f. leaves p any (fits_to p f)))
-            | inr on ↦ barred.elsewhere p on_old (λ k. leaves p (one_any edges p k) on) ∙ old_free p ∙ sym (label_among-nil_fits b rule p (fits_from p on))
-          ];
+            let on_area : HasPoint area p = subst (λ (r : Rect). HasPoint r p) whole h in
+            let on_old : HasPoint old.region p = subst (λ (r : Rect). HasPoint r p) kept h in
+            elim (others p (board_point b area p board on_area)) [
+              | inl any ↦ barred.within p (any_one edges p any) ∙ sym (label_among-nil_leaves b rule p (λ f. leaves p any (fits_to p f)))
+              | inr on ↦ barred.elsewhere p on_old (λ k. leaves p (one_any edges p k) on) ∙ old_free p ∙ sym (label_among-nil_fits b rule p (fits_from p on))
+            ];
         canonical = plane;
       }

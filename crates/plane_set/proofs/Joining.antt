@@ -100,15 +100,15 @@ module _ (domain area : Rect) (owner : Option NetId) (old : Point → Label) (in
   one_more_joined done s mid new labelled fresh before step = record {
     within = λ p a h. elim (Contains-push_cases done s h.by h.is_listed) [
       | inl listed ↦
-        let held : IsHeld done p = record { by = h.by; is_listed = listed; has_point = h.has_point } in
-        step.elsewhere p (point_within area domain p inside a) (λ c. fresh p c.in_second held) ∙ before.within p a held
+          let held : IsHeld done p = record { by = h.by; is_listed = listed; has_point = h.has_point } in
+          step.elsewhere p (point_within area domain p inside a) (λ c. fresh p c.in_second held) ∙ before.within p a held
       | inr same ↦
-        let here : HasPoint s.area p = subst (λ (t : Strip). HasPoint t.area p) (sym same) h.has_point in
-        step.within p (record { in_first = a; in_second = here }) ∙ ap (λ l. joined l owner) (sym (labelled p here))
+          let here : HasPoint s.area p = subst (λ (t : Strip). HasPoint t.area p) (sym same) h.has_point in
+          step.within p (record { in_first = a; in_second = here }) ∙ ap (λ l. joined l owner) (sym (labelled p here))
     ];
     elsewhere = λ p d n.
-      step.elsewhere p d (λ c. n c.in_first (held_last done s p c.in_second))
-      ∙ before.elsewhere p d (λ a h. n a (held_more done s p h));
+        step.elsewhere p d (λ c. n c.in_first (held_last done s p c.in_second))
+        ∙ before.elsewhere p d (λ a h. n a (held_more done s p h));
   }
 
   pub all_joined : (found : List Strip) (new : Point → Label) → ((p : Point) → HasPoint area p → IsHeld found p) → IsJoinedSoFar domain area found owner old new → IsJoined domain area owner old new

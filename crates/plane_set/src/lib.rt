@@ -11,8 +11,7 @@ mod frames;
 mod joins;
 mod sets;
 
-pub use adds::{add_to_plane, add_to_rows};
-pub use builds::build_rows;
-pub use families::Family;
-pub use joins::paint_shape;
 pub use sets::PlaneSet;
+
+#[cfg(test)]
+mod tests;

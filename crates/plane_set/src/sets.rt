@@ -33,8 +33,8 @@ impl<P: Plane> Model for PlaneSet<P> {
     ghost Value = { PlaneTable };
 
     ghost view = { λ set. record {
-        wires = drawn_rows vec_items (drawing_by P.region P.strips) set.wires.items;
-        vias = drawn_rows vec_items (drawing_by P.region P.strips) set.vias.items
+      wires = drawn_rows vec_items (drawing_by P.region P.strips) set.wires.items;
+      vias = drawn_rows vec_items (drawing_by P.region P.strips) set.vias.items;
     } };
 }
 

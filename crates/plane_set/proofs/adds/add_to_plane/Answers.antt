@@ -30,6 +30,6 @@ returns-in-Some-meet g c =
     let draw = drawing_by g.P.Plane.region g.P.Plane.strips in
     if_ok_three c.paint_shape.result _ _ _ (λ new. HasOneMore rule c.args.s.now (draw c.args.plane) (draw new))
     (λ new region labels plane.
-      plane_joined rule c.args.s.now (draw c.args.plane) (draw new) c.domain-domain.result c.in-Some.hit c.in-Some-meet.area
-      c.domain-domain.ensures.domain c.in-Some.ensures.some c.in-Some-meet.ensures.some region labels plane)
+    plane_joined rule c.args.s.now (draw c.args.plane) (draw new) c.domain-domain.result c.in-Some.hit c.in-Some-meet.area
+    c.domain-domain.ensures.domain c.in-Some.ensures.some c.in-Some-meet.ensures.some region labels plane)
     c.paint_shape.ensures.region c.paint_shape.ensures.labels c.paint_shape.ensures.canonical

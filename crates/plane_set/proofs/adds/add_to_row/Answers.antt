@@ -24,8 +24,8 @@ loop-plane-preserved g c =
       class = ap (λ (n : ℕ). n + 1) m.class ∙ sym (length_push c.loop-plane.yielded c.in-Some.plane);
       added = length_both _ _ _ _ _ c.in_ok-push.ensures.items m.added;
       shapes = λ shapes h. let P : List g.row.P.Denot → Type 0 = IsRow draw b f row (shapes ++ s ∷ []) in
-        subst P (sym c.in_ok-push.ensures.items) (each_more (λ n x. Shows b (rule_in b f row (class_at n)) shapes (draw x)) (λ n x. Shows b (rule_in b f row (class_at n)) (shapes ++ s ∷ []) (draw x)) c.loop-plane.yielded done c.in-Some.plane c.in_ok-add_to_plane.field-0 c.loop-plane.class m.class m.added (m.shapes shapes)
-        (shows_more b (rule_in b f row (class_at c.loop-plane.class)) shapes s (draw c.in-Some.plane) (draw c.in_ok-add_to_plane.field-0) c.in_ok-add_to_plane.ensures) h);
+          subst P (sym c.in_ok-push.ensures.items) (each_more (λ n x. Shows b (rule_in b f row (class_at n)) shapes (draw x)) (λ n x. Shows b (rule_in b f row (class_at n)) (shapes ++ s ∷ []) (draw x)) c.loop-plane.yielded done c.in-Some.plane c.in_ok-add_to_plane.field-0 c.loop-plane.class m.class m.added (m.shapes shapes)
+          (shows_more b (rule_in b f row (class_at c.loop-plane.class)) shapes s (draw c.in-Some.plane) (draw c.in_ok-add_to_plane.field-0) c.in_ok-add_to_plane.ensures) h);
     }
 
 pub returns-clause-shapes : goal.returns-clause-shapes
@@ -36,4 +36,4 @@ returns-clause-shapes g c =
     let end = YieldsList-end (YieldsList-from_vec {s = c.into_iter-plane-iterator.result} all gives.0 (gives.1 ∙ c.args.planes.ok.0)) c.loop-plane.yielded c.loop-plane.plane-iterator c.loop-plane.yielded_by c.next.result c.next.new.self c.in-None.is c.next.ensures.steps in
     let whole : c.loop-plane.yielded ≡ all = sym (map-id c.loop-plane.yielded) ∙ end.0 in
     λ shapes h. let P : List g.row.P.Denot → Type 0 = IsRow draw c.args.board.now.parts c.args.family c.args.row shapes in
-      c.loop-plane.invariant.shapes shapes (subst P (sym whole) h)
+    c.loop-plane.invariant.shapes shapes (subst P (sym whole) h)

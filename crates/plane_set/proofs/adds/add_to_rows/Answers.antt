@@ -32,8 +32,8 @@ loop-planes-preserved g c =
       added = length_both _ _ _ _ _ c.in_ok-push.ensures.items m.added;
       classes = subst Q (sym c.in_ok-push.ensures.items) (All-push (λ (r : Row). length (vec_items r) ≡ length b.classes) done new m.classes (c.in_ok-add_to_row.ensures.classes ∙ size));
       shapes = λ shapes h.
-        let P : List Row → Type 0 = λ rows. AreRows vec_items draw b f (shapes ++ s ∷ []) rows in
-        subst P (sym c.in_ok-push.ensures.items) (each_more (λ n (r : Row). IsRow draw b f n shapes (vec_items r)) (λ n (r : Row). IsRow draw b f n (shapes ++ s ∷ []) (vec_items r)) c.loop-planes.yielded done old new c.loop-planes.row m.row m.added (m.shapes shapes) (c.in_ok-add_to_row.ensures.shapes shapes) h);
+          let P : List Row → Type 0 = λ rows. AreRows vec_items draw b f (shapes ++ s ∷ []) rows in
+          subst P (sym c.in_ok-push.ensures.items) (each_more (λ n (r : Row). IsRow draw b f n shapes (vec_items r)) (λ n (r : Row). IsRow draw b f n (shapes ++ s ∷ []) (vec_items r)) c.loop-planes.yielded done old new c.loop-planes.row m.row m.added (m.shapes shapes) (c.in_ok-add_to_row.ensures.shapes shapes) h);
     }
 
 pub returns-clause-shapes : goal.returns-clause-shapes
@@ -44,4 +44,4 @@ returns-clause-shapes g c =
     let end = YieldsList-end (YieldsList-from_vec {s = c.into_iter-planes-iterator.result} all gives.0 (gives.1 ∙ c.args.rows.ok.0)) c.loop-planes.yielded c.loop-planes.planes-iterator c.loop-planes.yielded_by c.next.result c.next.new.self c.in-None.is c.next.ensures.steps in
     let whole : c.loop-planes.yielded ≡ all = sym (map-id c.loop-planes.yielded) ∙ end.0 in
     λ shapes h. let P : List (Vec g.row.P.Denot Global) → Type 0 = λ rows. AreRows vec_items draw c.args.board.now.parts c.args.family shapes rows in
-      c.loop-planes.invariant.shapes shapes (subst P (sym whole) h)
+    c.loop-planes.invariant.shapes shapes (subst P (sym whole) h)

@@ -19,5 +19,5 @@ loop-class-preserved g c =
     record {
       classes = ap length c.in_ok-push.ensures.items ∙ length_push done new ∙ ap (λ (n : ℕ). n + 1) c.loop-class.invariant.classes;
       shapes = subst P (sym c.in_ok-push.ensures.items)
-        (each_push (λ n x. Shows b (rule_in b f row (class_at n)) shapes (draw x)) done new c.loop-class.invariant.shapes (subst At (sym c.loop-class.invariant.classes) c.in_ok-build_plane.ensures));
+          (each_push (λ n x. Shows b (rule_in b f row (class_at n)) shapes (draw x)) done new c.loop-class.invariant.shapes (subst At (sym c.loop-class.invariant.classes) c.in_ok-build_plane.ensures));
     }

@@ -23,5 +23,5 @@ loop-row-preserved g c =
       rows = ap length c.in_ok-push.ensures.items ∙ length_push done new ∙ ap (λ (n : ℕ). n + 1) c.loop-row.invariant.rows;
       classes = subst Q (sym c.in_ok-push.ensures.items) (All-push (λ (r : Row). length (vec_items r) ≡ length b.classes) done new c.loop-row.invariant.classes c.in_ok-build_row.ensures.classes);
       shapes = subst P (sym c.in_ok-push.ensures.items)
-        (each_push (λ n (r : Row). IsRow draw b f n shapes (vec_items r)) done new c.loop-row.invariant.shapes (subst At (sym c.loop-row.invariant.rows) c.in_ok-build_row.ensures.shapes));
+          (each_push (λ n (r : Row). IsRow draw b f n shapes (vec_items r)) done new c.loop-row.invariant.shapes (subst At (sym c.loop-row.invariant.rows) c.in_ok-build_row.ensures.shapes));
     }

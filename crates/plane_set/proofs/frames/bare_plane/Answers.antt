@@ -13,6 +13,6 @@ returns g c =
     let rule = rule_in b c.args.family c.args.row c.args.c in
     if_ok_three c.bar.result _ _ _ (λ new. Shows b rule [] (draw new))
     (λ new region labels plane.
-      bare_shows b rule (to_z w32 (of_z w32 c.half-half.result)) (omega (arith, ints, c.half-half.ensures.half)) c.frame-edges.result c.frame-edges.ensures.leaves c.frame-edges.ensures.others
-      c.board_area.result (draw c.in_ok-plane.plane) (draw new) c.board_area.ensures c.in_ok-plane.ensures.region c.in_ok-plane.ensures.strips region labels plane)
+    bare_shows b rule (to_z w32 (of_z w32 c.half-half.result)) (omega (arith, ints, c.half-half.ensures.half)) c.frame-edges.result c.frame-edges.ensures.leaves c.frame-edges.ensures.others
+    c.board_area.result (draw c.in_ok-plane.plane) (draw new) c.board_area.ensures c.in_ok-plane.ensures.region c.in_ok-plane.ensures.strips region labels plane)
     c.bar.ensures.region c.bar.ensures.labels c.bar.ensures.canonical

@@ -37,6 +37,6 @@ loop-strip-preserved g c =
     record {
       region = c.in_ok-painted.ensures.region ∙ c.loop-strip.invariant.region;
       labels = joined_here domain c.args.area strips items c.domain-domain.ensures.canonical choice c.loop-strip.strip-index s c.strip-item.is (omega arith)
-        c.args.owner mid new c.requires.inside c.loop-strip.invariant.labels step;
+          c.args.owner mid new c.requires.inside c.loop-strip.invariant.labels step;
       canonical = c.in_ok-painted.ensures.canonical;
     }

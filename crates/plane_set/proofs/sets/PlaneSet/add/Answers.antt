@@ -40,9 +40,9 @@ returns-clause-shapes g c =
     λ shapes h. record {
       planes = returns-clause-planes g c;
       wires = rows_drawn vec_items draw b Wires (shapes ++ s ∷ []) c.in_ok-wires.wires.items
-        (c.in_ok-wires.ensures.shapes shapes (rows_undrawn vec_items draw b Wires shapes old.wires.items
-        (subst (λ (rows : List (List Drawing)). AreRows (λ (row : List Drawing). row) (λ (d : Drawing). d) b Wires shapes rows) (sym (ap (λ (t : PlaneTable). t.wires) c.self.view_is)) h.wires)));
+          (c.in_ok-wires.ensures.shapes shapes (rows_undrawn vec_items draw b Wires shapes old.wires.items
+          (subst (λ (rows : List (List Drawing)). AreRows (λ (row : List Drawing). row) (λ (d : Drawing). d) b Wires shapes rows) (sym (ap (λ (t : PlaneTable). t.wires) c.self.view_is)) h.wires)));
       vias = rows_drawn vec_items draw b Vias (shapes ++ s ∷ []) c.in_ok-vias.vias.items
-        (c.in_ok-vias.ensures.shapes shapes (rows_undrawn vec_items draw b Vias shapes old.vias.items
-        (subst (λ (rows : List (List Drawing)). AreRows (λ (row : List Drawing). row) (λ (d : Drawing). d) b Vias shapes rows) (sym (ap (λ (t : PlaneTable). t.vias) c.self.view_is)) h.vias)));
+          (c.in_ok-vias.ensures.shapes shapes (rows_undrawn vec_items draw b Vias shapes old.vias.items
+          (subst (λ (rows : List (List Drawing)). AreRows (λ (row : List Drawing). row) (λ (d : Drawing). d) b Vias shapes rows) (sym (ap (λ (t : PlaneTable). t.vias) c.self.view_is)) h.vias)));
     }

@@ -1,7 +1,5 @@
-use Rattle.std.proofs.Common.{◌≡◌, [], List, length, All, replicate, refl, sym, ◌∙◌, subst}
+use Rattle.std.proofs.Common.{◌≡◌, [], List, length, All, sym, ◌∙◌, subst}
 use Rattle.std.specs.Prelude.{vec_items}
-use Rattle.std.proofs.lemmas.List.Elements.{All-replicate}
-use Rattle.board_model.specs.declared.made.Conn.{Conn}
 use Rattle.board_model.specs.declared.shapes.Shape.{Shape}
 use Rattle.board_model.specs.Shapes.{board_shapes}
 use Rattle.board_model.proofs.StateShapes.{only_the_board}
@@ -17,16 +15,14 @@ pub build_rows-requires-clause-near : goal.build_rows-requires-clause-near
 build_rows-requires-clause-near g c =
     let b = c.args.board.now.parts in
     let lists = c.in_ok-made.made.lists in
-    let none : All (λ (conns : List Conn). conns ≡ []) lists = subst (λ (ls : List (List Conn)). All (λ conns. conns ≡ []) ls) (sym c.in_ok-made.ensures) (All-replicate (λ (conns : List Conn). conns ≡ []) (length b.net_names) [] refl) in
-    let e : c.as_slice.result.now ≡ board_shapes b = c.as_slice.ensures ∙ c.in_ok-shapes.ensures.shapes ∙ only_the_board b lists none in
+    let e : c.as_slice.result.now ≡ board_shapes b = c.as_slice.ensures ∙ c.in_ok-shapes.ensures.shapes ∙ only_the_board b lists c.in_ok-made.ensures.none_made in
     subst (λ (ss : List Shape). All (λ (s : Shape). IsNearOrigin s.area) ss) (sym e) (board_near b c.args.board.now.kept)
 
 pub build_rows-requires-2-clause-near : goal.build_rows-requires-2-clause-near
 build_rows-requires-2-clause-near g c =
     let b = c.args.board.now.parts in
     let lists = c.in_ok-made.made.lists in
-    let none : All (λ (conns : List Conn). conns ≡ []) lists = subst (λ (ls : List (List Conn)). All (λ conns. conns ≡ []) ls) (sym c.in_ok-made.ensures) (All-replicate (λ (conns : List Conn). conns ≡ []) (length b.net_names) [] refl) in
-    let e : c.as_slice-2.result.now ≡ board_shapes b = c.as_slice-2.ensures ∙ c.in_ok-shapes.ensures.shapes ∙ only_the_board b lists none in
+    let e : c.as_slice-2.result.now ≡ board_shapes b = c.as_slice-2.ensures ∙ c.in_ok-shapes.ensures.shapes ∙ only_the_board b lists c.in_ok-made.ensures.none_made in
     subst (λ (ss : List Shape). All (λ (s : Shape). IsNearOrigin s.area) ss) (sym e) (board_near b c.args.board.now.kept)
 
 pub returns : goal.returns
@@ -34,9 +30,8 @@ returns g c =
     let b = c.args.board.now.parts in
     let draw = drawing_by g.P.Plane.region g.P.Plane.strips in
     let lists = c.in_ok-made.made.lists in
-    let none : All (λ (conns : List Conn). conns ≡ []) lists = subst (λ (ls : List (List Conn)). All (λ conns. conns ≡ []) ls) (sym c.in_ok-made.ensures) (All-replicate (λ (conns : List Conn). conns ≡ []) (length b.net_names) [] refl) in
-    let first : c.as_slice.result.now ≡ board_shapes b = c.as_slice.ensures ∙ c.in_ok-shapes.ensures.shapes ∙ only_the_board b lists none in
-    let second : c.as_slice-2.result.now ≡ board_shapes b = c.as_slice-2.ensures ∙ c.in_ok-shapes.ensures.shapes ∙ only_the_board b lists none in
+    let first : c.as_slice.result.now ≡ board_shapes b = c.as_slice.ensures ∙ c.in_ok-shapes.ensures.shapes ∙ only_the_board b lists c.in_ok-made.ensures.none_made in
+    let second : c.as_slice-2.result.now ≡ board_shapes b = c.as_slice-2.ensures ∙ c.in_ok-shapes.ensures.shapes ∙ only_the_board b lists c.in_ok-made.ensures.none_made in
     let wires = c.in_ok-wires.wires.items in
     let vias = c.in_ok-vias.vias.items in
     record {
