@@ -92,8 +92,9 @@ ascii-none j = omega arith
 pub ascii-word : (ws : List (List ℕ)) → All IsWord ws → (i : ℕ) → IsAscii (word ws i)
 ascii-word ws h i =
     elim (cases_lt i (length ws)) [
-      inl inside ↦ ascii-bytes (word ws i) (h i [] inside).each
-    | inr past ↦ subst (λ w. IsAscii w) (sym (get_or_past ws i [] past)) ascii-none ]
+      | inl inside ↦ ascii-bytes (word ws i) (h i [] inside).each
+      | inr past ↦ subst (λ w. IsAscii w) (sym (get_or_past ws i [] past)) ascii-none
+    ]
 
 -- what is known of the form is known of the one that it is
 pub as-form : (d : Draft) (f g : Form) (ws : List (List ℕ)) → f ≡ g → BreaksNone d f ws → BreaksNone d g ws

@@ -8,5 +8,6 @@ use Rattle.board_model.specs.Rules.{IsWordByte}
 pub ascii-bytes : (w : List ℕ) → All IsWordByte w → IsAscii w
 ascii-bytes w h i =
     elim (cases_lt i (length w)) [
-      inl inside ↦ omega (arith, (h i 0 inside).to)
-    | inr past ↦ rw (get_or_past w i 0 past) (omega arith) ]
+      | inl inside ↦ omega (arith, (h i 0 inside).to)
+      | inr past ↦ rw (get_or_past w i 0 past) (omega arith)
+    ]

@@ -38,13 +38,14 @@ unfolding value_at
 value-holds P [] row column v h e = absurd (cc)
 value-holds P (x ∷ xs) row column v h e =
     elim (cases_Bool (x.row == row && x.column == column)) [
-      inl here ↦
-        let found = sym (cond-true (x.row == row && x.column == column) (Some x.value) (value_at xs row column) here) ∙ e in
-        let same : x.value ≡ v = cc in
-        subst P same (All-head (λ (y : Entry _). P y.value) x xs h)
-    | inr later ↦
-        value-holds P xs row column v (All-tail (λ (y : Entry _). P y.value) x xs h)
-        (sym (cond-false (x.row == row && x.column == column) (Some x.value) (value_at xs row column) later) ∙ e) ]
+      | inl here ↦
+          let found = sym (cond-true (x.row == row && x.column == column) (Some x.value) (value_at xs row column) here) ∙ e in
+          let same : x.value ≡ v = cc in
+          subst P same (All-head (λ (y : Entry _). P y.value) x xs h)
+      | inr later ↦
+          value-holds P xs row column v (All-tail (λ (y : Entry _). P y.value) x xs h)
+          (sym (cond-false (x.row == row && x.column == column) (Some x.value) (value_at xs row column) later) ∙ e)
+    ]
 
 cons-holds : {T : Type 0} (P : T → Type 0) (o : Option T) (xs : List T) → ((v : T) → o ≡ Some v → P v) → All P xs → All P (cons_option o xs)
 cons-holds P None xs h all = all

@@ -45,8 +45,9 @@ words-cut [] begins = absurd (false≢true begins)
 words-cut (b ∷ bs) begins =
     let e : is_blank b ≡ false = grind arith in
     elim (cases_Bool (begins_word bs)) [
-      inl f ↦ words-inside b bs e f ∙ (ap (onto b) (words-cut bs f) ∙ ap (λ n. take n (b ∷ bs) ∷ words (drop n (b ∷ bs))) (sym (front_length-cons b bs e)))
-    | inr f ↦ words-last b bs e f ∙ ap (λ n. take n (b ∷ bs) ∷ words (drop n (b ∷ bs))) (sym (front_length-cons b bs e ∙ ap (λ n. suc n) (no_front bs f))) ]
+      | inl f ↦ words-inside b bs e f ∙ (ap (onto b) (words-cut bs f) ∙ ap (λ n. take n (b ∷ bs) ∷ words (drop n (b ∷ bs))) (sym (front_length-cons b bs e)))
+      | inr f ↦ words-last b bs e f ∙ ap (λ n. take n (b ∷ bs) ∷ words (drop n (b ∷ bs))) (sym (front_length-cons b bs e ∙ ap (λ n. suc n) (no_front bs f)))
+    ]
 
 -- one more of at most n items
 pub take-next : (n : ℕ) (front : List (List ℕ)) (w : List ℕ) (ws all : List (List ℕ)) (k : ℕ)

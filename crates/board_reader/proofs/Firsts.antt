@@ -23,8 +23,9 @@ found-first : (d : Draft) (line : List ℕ) (ks : List RefusalKind) (kind : Refu
 found-first d line [] kind e = absurd (cc)
 found-first d line (k ∷ ks) kind e =
     elim (cases_Bool (applies d line (form_of (word (words line) 0)) (words line) k)) [
-      inl t ↦ inl (t, let s = sym (cond-true _ (Some k) (find (applies d line (form_of (word (words line) 0)) (words line)) ks) t) ∙ e in cc)
-    | inr f ↦ inr (λ t. false≢true (sym f ∙ t), found-first d line ks kind (sym (cond-false _ (Some k) (find (applies d line (form_of (word (words line) 0)) (words line)) ks) f) ∙ e)) ]
+      | inl t ↦ inl (t, let s = sym (cond-true _ (Some k) (find (applies d line (form_of (word (words line) 0)) (words line)) ks) t) ∙ e in cc)
+      | inr f ↦ inr (λ t. false≢true (sym f ∙ t), found-first d line ks kind (sym (cond-false _ (Some k) (find (applies d line (form_of (word (words line) 0)) (words line)) ks) f) ∙ e))
+    ]
 
 first-found : (d : Draft) (line : List ℕ) (ks : List RefusalKind) (kind : RefusalKind)
     → IsFirst d line ks kind → find (applies d line (form_of (word (words line) 0)) (words line)) ks ≡ Some kind
@@ -32,24 +33,27 @@ first-found d line [] kind h = absurd h
 first-found d line (k ∷ ks) kind (inl h) = cond-true _ (Some k) (find (applies d line (form_of (word (words line) 0)) (words line)) ks) h.0 ∙ ap (λ x. Some x) (sym h.1)
 first-found d line (k ∷ ks) kind (inr h) =
     elim (cases_Bool (applies d line (form_of (word (words line) 0)) (words line) k)) [
-      inl t ↦ absurd (h.0 t)
-    | inr f ↦ cond-false _ (Some k) (find (applies d line (form_of (word (words line) 0)) (words line)) ks) f ∙ first-found d line ks kind h.1 ]
+      | inl t ↦ absurd (h.0 t)
+      | inr f ↦ cond-false _ (Some k) (find (applies d line (form_of (word (words line) 0)) (words line)) ks) f ∙ first-found d line ks kind h.1
+    ]
 
 found-none : (d : Draft) (line : List ℕ) (ks : List RefusalKind)
     → find (applies d line (form_of (word (words line) 0)) (words line)) ks ≡ None → NoneApplies d line ks
 found-none d line [] e = tt
 found-none d line (k ∷ ks) e =
     elim (cases_Bool (applies d line (form_of (word (words line) 0)) (words line) k)) [
-      inl t ↦ let s = sym (cond-true _ (Some k) (find (applies d line (form_of (word (words line) 0)) (words line)) ks) t) ∙ e in absurd (cc)
-    | inr f ↦ (λ t. false≢true (sym f ∙ t), found-none d line ks (sym (cond-false _ (Some k) (find (applies d line (form_of (word (words line) 0)) (words line)) ks) f) ∙ e)) ]
+      | inl t ↦ let s = sym (cond-true _ (Some k) (find (applies d line (form_of (word (words line) 0)) (words line)) ks) t) ∙ e in absurd (cc)
+      | inr f ↦ (λ t. false≢true (sym f ∙ t), found-none d line ks (sym (cond-false _ (Some k) (find (applies d line (form_of (word (words line) 0)) (words line)) ks) f) ∙ e))
+    ]
 
 none-found : (d : Draft) (line : List ℕ) (ks : List RefusalKind)
     → NoneApplies d line ks → find (applies d line (form_of (word (words line) 0)) (words line)) ks ≡ None
 none-found d line [] h = refl
 none-found d line (k ∷ ks) h =
     elim (cases_Bool (applies d line (form_of (word (words line) 0)) (words line) k)) [
-      inl t ↦ absurd (h.0 t)
-    | inr f ↦ cond-false _ (Some k) (find (applies d line (form_of (word (words line) 0)) (words line)) ks) f ∙ none-found d line ks h.1 ]
+      | inl t ↦ absurd (h.0 t)
+      | inr f ↦ cond-false _ (Some k) (find (applies d line (form_of (word (words line) 0)) (words line)) ks) f ∙ none-found d line ks h.1
+    ]
 
 kind-is : (d : Draft) (line : List ℕ) → kind_of_line d line ≡ find (applies d line (form_of (word (words line) 0)) (words line)) order
 unfolding kind_of_line kind_with
@@ -59,31 +63,36 @@ kind-is d line = refl
 step-ok : (d e : Draft) (line : List ℕ) → step d line ≡ Ok e → BreaksNoRule d line × (with_line d line ≡ e)
 step-ok d e line said =
     elim (cases_Bool (counts line)) [
-      inr blank ↦ (λ t. absurd (false≢true (sym blank ∙ t)), cond-false _ (after_line d line) d blank ∙ (let s = skipped d line blank in cc))
-    | inl some ↦ elim (cases_option (kind_of_line d line)) [
-        inr bad ↦ let s = refused d line bad.0 some bad.1 in absurd (cc)
-      | inl none ↦
-          let s = passed d line (form_of (word (words line) 0)) some none refl in
-          (λ _. found-none d line order (sym (kind-is d line) ∙ none), cond-true _ (after_line d line) d some ∙ (cc)) ] ]
+      | inr blank ↦ (λ t. absurd (false≢true (sym blank ∙ t)), cond-false _ (after_line d line) d blank ∙ (let s = skipped d line blank in cc))
+      | inl some ↦ elim (cases_option (kind_of_line d line)) [
+        | inr bad ↦ let s = refused d line bad.0 some bad.1 in absurd (cc)
+        | inl none ↦
+            let s = passed d line (form_of (word (words line) 0)) some none refl in
+            (λ _. found-none d line order (sym (kind-is d line) ∙ none), cond-true _ (after_line d line) d some ∙ (cc))
+      ]
+    ]
 
 ok-step : (d : Draft) (line : List ℕ) → BreaksNoRule d line → step d line ≡ Ok (with_line d line)
 ok-step d line h =
     elim (cases_Bool (counts line)) [
-      inr blank ↦ skipped d line blank ∙ ap (λ e. Ok e) (sym (cond-false _ (after_line d line) d blank))
-    | inl some ↦
-        passed d line (form_of (word (words line) 0)) some (kind-is d line ∙ none-found d line order (h some)) refl
-        ∙ ap (λ e. Ok e) (sym (cond-true _ (after_line d line) d some)) ]
+      | inr blank ↦ skipped d line blank ∙ ap (λ e. Ok e) (sym (cond-false _ (after_line d line) d blank))
+      | inl some ↦
+          passed d line (form_of (word (words line) 0)) some (kind-is d line ∙ none-found d line order (h some)) refl
+          ∙ ap (λ e. Ok e) (sym (cond-true _ (after_line d line) d some))
+    ]
 
 step-err : (d : Draft) (line : List ℕ) (kind : RefusalKind) → step d line ≡ Err kind → (counts line ≡ true) × IsFirst d line order kind
 step-err d line kind said =
     elim (cases_Bool (counts line)) [
-      inr blank ↦ let s = skipped d line blank in absurd (cc)
-    | inl some ↦ elim (cases_option (kind_of_line d line)) [
-        inr bad ↦
-          let s = refused d line bad.0 some bad.1 in
-          let same : bad.0 ≡ kind = cc in
-          (some, found-first d line order kind (sym (kind-is d line) ∙ (bad.1 ∙ ap (λ k. Some k) same)))
-      | inl none ↦ let s = passed d line (form_of (word (words line) 0)) some none refl in absurd (cc) ] ]
+      | inr blank ↦ let s = skipped d line blank in absurd (cc)
+      | inl some ↦ elim (cases_option (kind_of_line d line)) [
+        | inr bad ↦
+            let s = refused d line bad.0 some bad.1 in
+            let same : bad.0 ≡ kind = cc in
+            (some, found-first d line order kind (sym (kind-is d line) ∙ (bad.1 ∙ ap (λ k. Some k) same)))
+        | inl none ↦ let s = passed d line (form_of (word (words line) 0)) some none refl in absurd (cc)
+      ]
+    ]
 
 err-step : (d : Draft) (line : List ℕ) (kind : RefusalKind) → counts line ≡ true → IsFirst d line order kind → step d line ≡ Err kind
 err-step d line kind some h = refused d line kind some (kind-is d line ∙ first-found d line order kind h)
@@ -116,8 +125,15 @@ is-not-commands s f e = false≢true (sym f ∙ ap (λ x. is_stage x Commands) e
 broken-later : (d : Draft) (n : ℕ) (line : List ℕ) (rest : List (List ℕ)) (r : Refusal) → BreaksNoRule d line
     → IsFirstBroken (with_line d line) (n + 1) rest r → IsFirstBroken d n (line ∷ rest) r
 broken-later d n line rest r here h = record {
-  before = line ∷ h.before; line = h.line; after = h.after; cut = ap (λ xs. line ∷ xs) h.cut;
-  number = omega (arith, h.number); said = h.said; none = (here, h.none); counted = h.counted; kind = h.kind
+  before = line ∷ h.before;
+  line = h.line;
+  after = h.after;
+  cut = ap (λ xs. line ∷ xs) h.cut;
+  number = omega (arith, h.number);
+  said = h.said;
+  none = (here, h.none);
+  counted = h.counted;
+  kind = h.kind;
 }
 
 open-later : (d : Draft) (n : ℕ) (line : List ℕ) (rest : List (List ℕ)) (r : Refusal) → BreaksNoRule d line
@@ -130,29 +146,39 @@ refusal_at n kind = record { line = n; kind = kind }
 pub refused-first : (d : Draft) (n : ℕ) (all : List (List ℕ)) (r : Refusal) → reading_from d n all ≡ Err r → IsFirstBroken d n all r ⊎ HasNoEnd d n all r
 refused-first d n [] r e =
     elim (stage-cases d.stage) [
-      inl s ↦ let t = ended d n s in absurd (cc)
-    | inr s ↦
-        let t = sym (not-ended d n s) ∙ e in
-        let same : refusal_at n NoEnd ≡ r = cc in
-        let line : n ≡ r.line = ap (λ x. x.line) same in
-        inr (record { said = d; none = refl; open_ended = is-not-commands d.stage s; number = omega (arith, line); kind = sym (ap (λ x. x.kind) same) }) ]
+      | inl s ↦ let t = ended d n s in absurd (cc)
+      | inr s ↦
+          let t = sym (not-ended d n s) ∙ e in
+          let same : refusal_at n NoEnd ≡ r = cc in
+          let line : n ≡ r.line = ap (λ x. x.line) same in
+          inr (record { said = d; none = refl; open_ended = is-not-commands d.stage s; number = omega (arith, line); kind = sym (ap (λ x. x.kind) same) })
+    ]
 refused-first d n (line ∷ rest) r e =
     elim (cases_result (step d line)) [
-      inl ok ↦
-        let p = step-ok d ok.0 line ok.1 in
-        let later : reading_from (with_line d line) (n + 1) rest ≡ Err r = subst (λ x. reading_from x (n + 1) rest ≡ Err r) (sym p.1) (sym (from-ok d ok.0 n line rest ok.1) ∙ e) in
-        elim (refused-first (with_line d line) (n + 1) rest r later) [
-          inl h ↦ inl (broken-later d n line rest r p.0 h)
-        | inr h ↦ inr (open-later d n line rest r p.0 h) ]
-    | inr bad ↦
-        let p = step-err d line bad.0 bad.1 in
-        let s = sym (from-err d bad.0 n line rest bad.1) ∙ e in
-        let same : refusal_at n bad.0 ≡ r = cc in
-        let number : n ≡ r.line = ap (λ x. x.line) same in
-        inl (record {
-          before = []; line = line; after = rest; cut = refl; number = omega (arith, number);
-          said = d; none = refl; counted = p.0; kind = subst (λ k. IsFirst d line order k) (ap (λ x. x.kind) same) p.1
-        }) ]
+      | inl ok ↦
+          let p = step-ok d ok.0 line ok.1 in
+          let later : reading_from (with_line d line) (n + 1) rest ≡ Err r = subst (λ x. reading_from x (n + 1) rest ≡ Err r) (sym p.1) (sym (from-ok d ok.0 n line rest ok.1) ∙ e) in
+          elim (refused-first (with_line d line) (n + 1) rest r later) [
+            | inl h ↦ inl (broken-later d n line rest r p.0 h)
+            | inr h ↦ inr (open-later d n line rest r p.0 h)
+          ]
+      | inr bad ↦
+          let p = step-err d line bad.0 bad.1 in
+          let s = sym (from-err d bad.0 n line rest bad.1) ∙ e in
+          let same : refusal_at n bad.0 ≡ r = cc in
+          let number : n ≡ r.line = ap (λ x. x.line) same in
+          inl (record {
+            before = [];
+            line = line;
+            after = rest;
+            cut = refl;
+            number = omega (arith, number);
+            said = d;
+            none = refl;
+            counted = p.0;
+            kind = subst (λ k. IsFirst d line order k) (ap (λ x. x.kind) same) p.1;
+          })
+    ]
 
 broken-reads : (d : Draft) (n : ℕ) (before : List (List ℕ)) (line : List ℕ) (after : List (List ℕ)) (r : Refusal) (said : Draft)
     → BreakNoRule d before said → counts line ≡ true → IsFirst said line order r.kind → r.line ≡ n + length before → reading_from d n (before ++ line ∷ after) ≡ Err r
@@ -179,16 +205,18 @@ first-refused d n all r (inr h) = open-reads d n all r h.said h.none h.open_ende
 pub read-told : (d : Draft) (n : ℕ) (all : List (List ℕ)) (t : Told) → reading_from d n all ≡ Ok t → IsTold d all t
 read-told d n [] t e =
     elim (stage-cases d.stage) [
-      inl s ↦ let u = sym (ended d n s) ∙ e in record { said = d; none = refl; ended = s; told = sym (let same : told d ≡ t = cc in same) }
-    | inr s ↦ let u = not-ended d n s in absurd (cc) ]
+      | inl s ↦ let u = sym (ended d n s) ∙ e in record { said = d; none = refl; ended = s; told = sym (let same : told d ≡ t = cc in same) }
+      | inr s ↦ let u = not-ended d n s in absurd (cc)
+    ]
 read-told d n (line ∷ rest) t e =
     elim (cases_result (step d line)) [
-      inl ok ↦
-        let p = step-ok d ok.0 line ok.1 in
-        let later : reading_from (with_line d line) (n + 1) rest ≡ Ok t = subst (λ x. reading_from x (n + 1) rest ≡ Ok t) (sym p.1) (sym (from-ok d ok.0 n line rest ok.1) ∙ e) in
-        let h = read-told (with_line d line) (n + 1) rest t later in
-        record { said = h.said; none = (p.0, h.none); ended = h.ended; told = h.told }
-    | inr bad ↦ let s = from-err d bad.0 n line rest bad.1 in absurd (cc) ]
+      | inl ok ↦
+          let p = step-ok d ok.0 line ok.1 in
+          let later : reading_from (with_line d line) (n + 1) rest ≡ Ok t = subst (λ x. reading_from x (n + 1) rest ≡ Ok t) (sym p.1) (sym (from-ok d ok.0 n line rest ok.1) ∙ e) in
+          let h = read-told (with_line d line) (n + 1) rest t later in
+          record { said = h.said; none = (p.0, h.none); ended = h.ended; told = h.told }
+      | inr bad ↦ let s = from-err d bad.0 n line rest bad.1 in absurd (cc)
+    ]
 
 told-reads : (d : Draft) (n : ℕ) (all : List (List ℕ)) (t : Told) (said : Draft) → BreakNoRule d all said → said.stage ≡ Commands → t ≡ told said → reading_from d n all ≡ Ok t
 told-reads d n [] t said none stage e = ended d n (ap (λ x. x.stage) none ∙ stage) ∙ ap (λ x. Ok x) (ap told none ∙ sym e)

@@ -23,25 +23,25 @@ pads-push rules pads e h m = record { rules = h.rules; pads = All-push (λ (x : 
 pub kinds-push : (layers names : ℕ) (kinds : List ViaKind) (k : ViaKind) (more : ℕ) → more ≡ names + 1 → AreKinds layers names kinds → IsKind layers k → AreKinds layers more (kinds ++ k ∷ [])
 kinds-push layers names kinds k more e h is = record {
   even = length_push kinds k ∙ (ap (λ n. n + 1) h.even ∙ sym e);
-  each = All-push (IsKind layers) kinds k h.each is
+  each = All-push (IsKind layers) kinds k h.each is;
 }
 
 pub kinds-grow : (layers more names : ℕ) (kinds : List ViaKind) → more ≡ layers + 1 → AreKinds layers names kinds → AreKinds more names kinds
 kinds-grow layers more names kinds e h = record {
   even = h.even;
-  each = All-weaker (IsKind layers) (IsKind more) (λ k is. record { neighbours = is.neighbours; known = omega (arith, is.known); charge = is.charge }) kinds h.each
+  each = All-weaker (IsKind layers) (IsKind more) (λ k is. record { neighbours = is.neighbours; known = omega (arith, is.known); charge = is.charge }) kinds h.each;
 }
 
 pub nets-push : (classes names : ℕ) (net_classes : List ClassId) (c : ClassId) (more : ℕ) → more ≡ names + 1 → AreNets classes names net_classes → c.0 < classes → AreNets classes more (net_classes ++ c ∷ [])
 nets-push classes names net_classes c more e h is = record {
   even = length_push net_classes c ∙ (ap (λ n. n + 1) h.even ∙ sym e);
-  each = All-push (λ (x : ClassId). x.0 < classes) net_classes c h.each is
+  each = All-push (λ (x : ClassId). x.0 < classes) net_classes c h.each is;
 }
 
 pub nets-grow : (classes more names : ℕ) (net_classes : List ClassId) → more ≡ classes + 1 → AreNets classes names net_classes → AreNets more names net_classes
 nets-grow classes more names net_classes e h = record {
   even = h.even;
-  each = All-weaker (λ (x : ClassId). x.0 < classes) (λ (x : ClassId). x.0 < more) (λ x is. omega (arith, is)) net_classes h.each
+  each = All-weaker (λ (x : ClassId). x.0 < classes) (λ (x : ClassId). x.0 < more) (λ x is. omega (arith, is)) net_classes h.each;
 }
 
 pub blocks-push : (layers : ℕ) (h : Heading) (blocks : List Block) (k : Block) → AreBlocks layers h blocks → IsBlockOf layers h k → length blocks + 1 ≤ 8192 → AreBlocks layers h (blocks ++ k ∷ [])
@@ -50,13 +50,13 @@ blocks-push layers h blocks k are is room = record { few = rw (length_push block
 pub blocks-grow : (layers more : ℕ) (h : Heading) (blocks : List Block) → more ≡ layers + 1 → AreBlocks layers h blocks → AreBlocks more h blocks
 blocks-grow layers more h blocks e are = record {
   few = are.few;
-  each = All-weaker (IsBlockOf layers h) (IsBlockOf more h) (λ k is. record { layer = omega (arith, is.layer); area = is.area }) blocks are.each
+  each = All-weaker (IsBlockOf layers h) (IsBlockOf more h) (λ k is. record { layer = omega (arith, is.layer); area = is.area }) blocks are.each;
 }
 
 pub blocks-none : (layers : ℕ) (h : Heading) (blocks : List Block) → blocks ≡ [] → AreBlocks layers h blocks
 blocks-none layers h blocks e = record {
   few = rw e (omega arith);
-  each = subst (λ bs. All (IsBlockOf layers h) bs) (sym e) (All-nil (IsBlockOf layers h))
+  each = subst (λ bs. All (IsBlockOf layers h) bs) (sym e) (All-nil (IsBlockOf layers h));
 }
 
 pub pins-push : (layers nets : ℕ) (h : Heading) (pins : List Pin) (p : Pin) → ArePins layers nets h pins → IsPinOf layers nets h p → length pins + 1 ≤ 32768 → ArePins layers nets h (pins ++ p ∷ [])
@@ -65,13 +65,13 @@ pins-push layers nets h pins p are is room = record { few = rw (length_push pins
 pub pins-grow : (layers nets more others : ℕ) (h : Heading) (pins : List Pin) → layers ≤ more → nets ≤ others → ArePins layers nets h pins → ArePins more others h pins
 pins-grow layers nets more others h pins l n are = record {
   few = are.few;
-  each = All-weaker (IsPinOf layers nets h) (IsPinOf more others h) (λ p is. record { net = omega (arith, is.net); area = is.area; order = is.order; layer = omega (arith, is.layer) }) pins are.each
+  each = All-weaker (IsPinOf layers nets h) (IsPinOf more others h) (λ p is. record { net = omega (arith, is.net); area = is.area; order = is.order; layer = omega (arith, is.layer) }) pins are.each;
 }
 
 pub pins-none : (layers nets : ℕ) (h : Heading) (pins : List Pin) → pins ≡ [] → ArePins layers nets h pins
 pins-none layers nets h pins e = record {
   few = rw e (omega arith);
-  each = subst (λ ps. All (IsPinOf layers nets h) ps) (sym e) (All-nil (IsPinOf layers nets h))
+  each = subst (λ ps. All (IsPinOf layers nets h) ps) (sym e) (All-nil (IsPinOf layers nets h));
 }
 
 pub measure-in : (n : ℕ) → (1 ≤ n) × (n ≤ 65535) → IsMeasure (pos n)

@@ -35,16 +35,25 @@ is-board d k e =
     let h = has-begun d k e in
     let c = complete-parts d (k.complete e) in
     record {
-      name = h.name; width = h.width; height = h.height;
-      layers = k.layers; some_layer = c.layer; classes = k.classes; some_class = c.class;
+      name = h.name;
+      width = h.width;
+      height = h.height;
+      layers = k.layers;
+      some_layer = c.layer;
+      classes = k.classes;
+      some_class = c.class;
       rules = length-table d.rules (length d.layers) (length d.classes) c.rules;
       each_rule = table-holds IsRule d.rules (length d.layers) (length d.classes) k.tables.rules;
-      kind_names = k.kind_names; kinds = k.kinds.even; each_kind = k.kinds.each;
+      kind_names = k.kind_names;
+      kinds = k.kinds.even;
+      each_kind = k.kinds.each;
       pads = length-table d.pads (length d.kind_names) (length d.classes) c.pads ∙ ap (λ n. n * length d.classes) (sym k.kinds.even);
       each_pad = table-holds IsMeasure d.pads (length d.kind_names) (length d.classes) k.tables.pads;
       blocks = k.blocks.few;
       each_block = All-weaker (IsBlockOf (length d.layers) d.heading) (IsBlock (parts_of d)) (λ b is. record { layer = is.layer; area = is.area }) d.blocks k.blocks.each;
-      net_names = k.net_names; net_classes = k.nets.even; each_class = k.nets.each;
+      net_names = k.net_names;
+      net_classes = k.nets.even;
+      each_class = k.nets.each;
       pins = k.pins.few;
-      each_pin = All-weaker (IsPinOf (length d.layers) (length d.net_names) d.heading) (IsPin (parts_of d)) (λ p is. record { net = is.net; area = is.area; order = is.order; layer = is.layer }) d.pins k.pins.each
+      each_pin = All-weaker (IsPinOf (length d.layers) (length d.net_names) d.heading) (IsPin (parts_of d)) (λ p is. record { net = is.net; area = is.area; order = is.order; layer = is.layer }) d.pins k.pins.each;
     }

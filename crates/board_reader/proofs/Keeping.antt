@@ -39,7 +39,7 @@ area-on-board d ws on e = record {
   left = omega (arith, ints);
   below = omega (arith, ints);
   right = omega (arith, ints, on.left, on.right);
-  above = omega (arith, ints, on.below, on.above)
+  above = omega (arith, ints, on.below, on.above);
 }
 
 -- layers one of which follows the other, each one of those that there are
@@ -47,8 +47,9 @@ kind-of-neighbours : (layers a b charge : ℕ) → a < layers → b < layers →
     → IsKind layers (record { first = record { 0 = min a b }; last = record { 0 = max a b }; charge = charge })
 kind-of-neighbours layers a b charge la lb e c =
     elim (or_cases (a + 1 == b) (b + 1 == a) e) [
-      inl s ↦ let same = eqb-true (a + 1) b s in record { neighbours = omega (arith, same); known = omega (arith, la, lb); charge = c }
-    | inr s ↦ let same = eqb-true (b + 1) a s in record { neighbours = omega (arith, same); known = omega (arith, la, lb); charge = c } ]
+      | inl s ↦ let same = eqb-true (a + 1) b s in record { neighbours = omega (arith, same); known = omega (arith, la, lb); charge = c }
+      | inr s ↦ let same = eqb-true (b + 1) a s in record { neighbours = omega (arith, same); known = omega (arith, la, lb); charge = c }
+    ]
 
 keeps-board : (d : Draft) (ws : List (List ℕ)) → IsDraft d → All IsWord ws → BreaksNone d form.Board ws → IsDraft (after_form d form.Board ws)
 unfolding after_form
@@ -57,16 +58,22 @@ keeps-board d ws k w h =
     let r = each-place d form.Board ws OutOfRange h.ranges in
     let s = each-place d form.Board ws BadWord h.spelled in
     record {
-      layers = k.layers; classes = k.classes; kind_names = k.kind_names; net_names = k.net_names;
-      tables = k.tables; kinds = k.kinds; nets = k.nets;
-      blocks = blocks-none _ _ _ empty.0; pins = pins-none _ _ _ _ empty.1;
+      layers = k.layers;
+      classes = k.classes;
+      kind_names = k.kind_names;
+      net_names = k.net_names;
+      tables = k.tables;
+      kinds = k.kinds;
+      nets = k.nets;
+      blocks = blocks-none _ _ _ empty.0;
+      pins = pins-none _ _ _ _ empty.1;
       empty = λ e. absurd (cc);
       heading = λ _. record {
         name = name-at ws 2 5 w (word-count h) (omega arith) (is-short-title d (word ws 2) s.1.0);
         width = side-in (number (word ws 3)) (in-range d 1 1048576 (word ws 3) r.1.1.0);
-        height = side-in (number (word ws 4)) (in-range d 1 1048576 (word ws 4) r.1.1.1.0)
+        height = side-in (number (word ws 4)) (in-range d 1 1048576 (word ws 4) r.1.1.1.0);
       };
-      complete = λ e. absurd (cc)
+      complete = λ e. absurd (cc);
     }
 
 keeps-layer : (d : Draft) (ws : List (List ℕ)) → IsDraft d → All IsWord ws → BreaksNone d form.Layer ws → IsDraft (after_form d form.Layer ws)
@@ -78,12 +85,17 @@ keeps-layer d ws k w h =
     let more = length_push d.layers (word ws 1) in
     record {
       layers = names-push 8 d.layers (word ws 1) k.layers (name-at ws 1 2 w (word-count h) (omega arith) (is-short d sort.Layer (word ws 1) s.0)) (layer-fresh d ws h) room;
-      classes = k.classes; kind_names = k.kind_names; net_names = k.net_names; tables = k.tables;
-      kinds = kinds-grow _ _ _ _ more k.kinds; nets = k.nets;
+      classes = k.classes;
+      kind_names = k.kind_names;
+      net_names = k.net_names;
+      tables = k.tables;
+      kinds = kinds-grow _ _ _ _ more k.kinds;
+      nets = k.nets;
       blocks = blocks-grow _ _ _ _ more k.blocks;
       pins = pins-grow _ _ _ _ _ _ (omega (arith, more)) (omega arith) k.pins;
-      empty = k.empty; heading = k.heading;
-      complete = λ e. absurd (cc)
+      empty = k.empty;
+      heading = k.heading;
+      complete = λ e. absurd (cc);
     }
 
 keeps-class : (d : Draft) (ws : List (List ℕ)) → IsDraft d → All IsWord ws → BreaksNone d form.Class ws → IsDraft (after_form d form.Class ws)
@@ -95,10 +107,16 @@ keeps-class d ws k w h =
     record {
       layers = k.layers;
       classes = names-push 4 d.classes (word ws 1) k.classes (name-at ws 1 2 w (word-count h) (omega arith) (is-short d sort.Class (word ws 1) s.0)) (class-fresh d ws h) room;
-      kind_names = k.kind_names; net_names = k.net_names; tables = k.tables; kinds = k.kinds;
+      kind_names = k.kind_names;
+      net_names = k.net_names;
+      tables = k.tables;
+      kinds = k.kinds;
       nets = nets-grow _ _ _ _ (length_push d.classes (word ws 1)) k.nets;
-      blocks = k.blocks; pins = k.pins; empty = k.empty; heading = k.heading;
-      complete = λ e. absurd (cc)
+      blocks = k.blocks;
+      pins = k.pins;
+      empty = k.empty;
+      heading = k.heading;
+      complete = λ e. absurd (cc);
     }
 
 keeps-rule : (d : Draft) (ws : List (List ℕ)) → IsDraft d → All IsWord ws → BreaksNone d form.Rule ws → IsDraft (after_form d form.Rule ws)
@@ -106,10 +124,18 @@ unfolding after_form
 keeps-rule d ws k w h =
     let stage : d.stage ≡ Parts = stands h in
     record {
-      layers = k.layers; classes = k.classes; kind_names = k.kind_names; net_names = k.net_names;
+      layers = k.layers;
+      classes = k.classes;
+      kind_names = k.kind_names;
+      net_names = k.net_names;
       tables = rules-push _ _ _ k.tables (record { half = measure-in (number (word ws 3)) (rule-half d ws h); gap = measure-in (number (word ws 4)) (rule-gap d ws h) });
-      kinds = k.kinds; nets = k.nets; blocks = k.blocks; pins = k.pins; empty = k.empty; heading = k.heading;
-      complete = λ e. absurd (cc)
+      kinds = k.kinds;
+      nets = k.nets;
+      blocks = k.blocks;
+      pins = k.pins;
+      empty = k.empty;
+      heading = k.heading;
+      complete = λ e. absurd (cc);
     }
 
 keeps-kind : (d : Draft) (ws : List (List ℕ)) → IsDraft d → All IsWord ws → BreaksNone d form.ViaKind ws → IsDraft (after_form d form.ViaKind ws)
@@ -123,13 +149,19 @@ keeps-kind d ws k w h =
     let one = number-in-range d.layers (word ws 2) (is-known d sort.Layer (word ws 2) u.1.0) in
     let other = number-in-range d.layers (word ws 3) (is-known d sort.Layer (word ws 3) u.1.1.0) in
     record {
-      layers = k.layers; classes = k.classes;
+      layers = k.layers;
+      classes = k.classes;
       kind_names = names-push 8 d.kind_names (word ws 1) k.kind_names (name-at ws 1 5 w (word-count h) (omega arith) (is-short d sort.Kind (word ws 1) s.0)) (kind-fresh d ws h) room;
-      net_names = k.net_names; tables = k.tables;
+      net_names = k.net_names;
+      tables = k.tables;
       kinds = kinds-push _ _ _ _ _ (length_push d.kind_names (word ws 1)) k.kinds
-        (kind-of-neighbours (length d.layers) (layer_of d (word ws 2)) (layer_of d (word ws 3)) (number (word ws 4)) one other beside (kind-charge d ws h).1);
-      nets = k.nets; blocks = k.blocks; pins = k.pins; empty = k.empty; heading = k.heading;
-      complete = λ e. absurd (cc)
+          (kind-of-neighbours (length d.layers) (layer_of d (word ws 2)) (layer_of d (word ws 3)) (number (word ws 4)) one other beside (kind-charge d ws h).1);
+      nets = k.nets;
+      blocks = k.blocks;
+      pins = k.pins;
+      empty = k.empty;
+      heading = k.heading;
+      complete = λ e. absurd (cc);
     }
 
 keeps-pad : (d : Draft) (ws : List (List ℕ)) → IsDraft d → All IsWord ws → BreaksNone d form.Pad ws → IsDraft (after_form d form.Pad ws)
@@ -137,10 +169,18 @@ unfolding after_form
 keeps-pad d ws k w h =
     let stage : d.stage ≡ Parts = stands h in
     record {
-      layers = k.layers; classes = k.classes; kind_names = k.kind_names; net_names = k.net_names;
+      layers = k.layers;
+      classes = k.classes;
+      kind_names = k.kind_names;
+      net_names = k.net_names;
       tables = pads-push _ _ _ k.tables (measure-in (number (word ws 3)) (pad-half d ws h));
-      kinds = k.kinds; nets = k.nets; blocks = k.blocks; pins = k.pins; empty = k.empty; heading = k.heading;
-      complete = λ e. absurd (cc)
+      kinds = k.kinds;
+      nets = k.nets;
+      blocks = k.blocks;
+      pins = k.pins;
+      empty = k.empty;
+      heading = k.heading;
+      complete = λ e. absurd (cc);
     }
 
 keeps-block : (d : Draft) (ws : List (List ℕ)) → IsDraft d → All IsWord ws → BreaksNone d form.Block ws → IsDraft (after_form d form.Block ws)
@@ -150,14 +190,21 @@ keeps-block d ws k w h =
     let u = each-place d form.Block ws UnknownName h.known in
     let room = ltb-false 8192 (length d.blocks + 1) (whole-line d form.Block ws TooMany h.few) in
     record {
-      layers = k.layers; classes = k.classes; kind_names = k.kind_names; net_names = k.net_names;
-      tables = k.tables; kinds = k.kinds; nets = k.nets;
+      layers = k.layers;
+      classes = k.classes;
+      kind_names = k.kind_names;
+      net_names = k.net_names;
+      tables = k.tables;
+      kinds = k.kinds;
+      nets = k.nets;
       blocks = blocks-push _ _ _ _ k.blocks (record {
         layer = number-in-range d.layers (word ws 1) (is-known d sort.Layer (word ws 1) u.0);
-        area = area-on-board d ws (block-corners d ws h) (whole-line d form.Block ws BadRect h.corners)
+        area = area-on-board d ws (block-corners d ws h) (whole-line d form.Block ws BadRect h.corners);
       }) room;
-      pins = k.pins; empty = λ e. absurd (cc); heading = k.heading;
-      complete = λ e. absurd (cc)
+      pins = k.pins;
+      empty = λ e. absurd (cc);
+      heading = k.heading;
+      complete = λ e. absurd (cc);
     }
 
 keeps-net : (d : Draft) (ws : List (List ℕ)) → IsDraft d → All IsWord ws → BreaksNone d form.Net ws → IsDraft (after_form d form.Net ws)
@@ -169,14 +216,18 @@ keeps-net d ws k w h =
     let room = ltb-false 16384 (length d.net_names + 1) (whole-line d form.Net ws TooMany h.few) in
     let more = length_push d.net_names (word ws 1) in
     record {
-      layers = k.layers; classes = k.classes; kind_names = k.kind_names;
+      layers = k.layers;
+      classes = k.classes;
+      kind_names = k.kind_names;
       net_names = names-push 16384 d.net_names (word ws 1) k.net_names (name-at ws 1 3 w (word-count h) (omega arith) (is-short d sort.Net (word ws 1) s.0)) (net-fresh d ws h) room;
-      tables = k.tables; kinds = k.kinds;
+      tables = k.tables;
+      kinds = k.kinds;
       nets = nets-push _ _ _ _ _ more k.nets (number-in-range d.classes (word ws 2) (is-known d sort.Class (word ws 2) u.1.0));
       blocks = k.blocks;
       pins = pins-grow _ _ _ _ _ _ (omega arith) (omega (arith, more)) k.pins;
-      empty = k.empty; heading = k.heading;
-      complete = λ e. absurd (cc)
+      empty = k.empty;
+      heading = k.heading;
+      complete = λ e. absurd (cc);
     }
 
 keeps-pin : (d : Draft) (ws : List (List ℕ)) → IsDraft d → All IsWord ws → BreaksNone d form.Pin ws → IsDraft (after_form d form.Pin ws)
@@ -188,16 +239,23 @@ keeps-pin d ws k w h =
     let one = number-in-range d.layers (word ws 6) (is-known d sort.Layer (word ws 6) u.1.1.1.1.1.0) in
     let other = number-in-range d.layers (word ws 7) (is-known d sort.Layer (word ws 7) u.1.1.1.1.1.1.0) in
     record {
-      layers = k.layers; classes = k.classes; kind_names = k.kind_names; net_names = k.net_names;
-      tables = k.tables; kinds = k.kinds; nets = k.nets; blocks = k.blocks;
+      layers = k.layers;
+      classes = k.classes;
+      kind_names = k.kind_names;
+      net_names = k.net_names;
+      tables = k.tables;
+      kinds = k.kinds;
+      nets = k.nets;
+      blocks = k.blocks;
       pins = pins-push _ _ _ _ _ k.pins (record {
         net = number-in-range d.net_names (word ws 1) (is-known d sort.Net (word ws 1) u.0);
         area = area-on-board d ws (pin-corners d ws h) (whole-line d form.Pin ws BadRect h.corners);
         order = omega arith;
-        layer = omega (arith, one, other)
+        layer = omega (arith, one, other);
       }) room;
-      empty = λ e. absurd (cc); heading = k.heading;
-      complete = λ e. absurd (cc)
+      empty = λ e. absurd (cc);
+      heading = k.heading;
+      complete = λ e. absurd (cc);
     }
 
 -- what is complete at `end` does not depend on the part of the text, nor on commands
@@ -206,20 +264,36 @@ unfolding after_form fails_whole is_complete
 keeps-end d ws k h =
     let stage : d.stage ≡ Parts = stands h in
     record {
-      layers = k.layers; classes = k.classes; kind_names = k.kind_names; net_names = k.net_names;
-      tables = k.tables; kinds = k.kinds; nets = k.nets; blocks = k.blocks; pins = k.pins;
+      layers = k.layers;
+      classes = k.classes;
+      kind_names = k.kind_names;
+      net_names = k.net_names;
+      tables = k.tables;
+      kinds = k.kinds;
+      nets = k.nets;
+      blocks = k.blocks;
+      pins = k.pins;
       empty = λ e. absurd (cc);
       heading = λ _. k.heading (λ e. cc);
-      complete = λ _. not-false (is_complete d) (whole-line d form.End ws MissingRule h.whole)
+      complete = λ _. not-false (is_complete d) (whole-line d form.End ws MissingRule h.whole);
     }
 
 keeps-rules : (d : Draft) (ws : List (List ℕ)) → IsDraft d → BreaksNone d form.Rules ws → IsDraft (after_form d form.Rules ws)
 unfolding after_form is_complete
 keeps-rules d ws k h =
     record {
-      layers = k.layers; classes = k.classes; kind_names = k.kind_names; net_names = k.net_names;
-      tables = k.tables; kinds = k.kinds; nets = k.nets; blocks = k.blocks; pins = k.pins;
-      empty = k.empty; heading = k.heading; complete = k.complete
+      layers = k.layers;
+      classes = k.classes;
+      kind_names = k.kind_names;
+      net_names = k.net_names;
+      tables = k.tables;
+      kinds = k.kinds;
+      nets = k.nets;
+      blocks = k.blocks;
+      pins = k.pins;
+      empty = k.empty;
+      heading = k.heading;
+      complete = k.complete;
     }
 
 pub keeps-form : (d : Draft) (f : Form) (ws : List (List ℕ)) → IsDraft d → All IsWord ws → BreaksNone d f ws → IsDraft (after_form d f ws)

@@ -45,7 +45,7 @@ pub names-push : (most : ℕ) (names : List (List ℕ)) (w : List ℕ) → AreNa
 names-push most names w h name fresh room = record {
   few = rw (length_push names w) room;
   each = All-push IsName names w h.each name;
-  apart = all_pairs_push (λ a b. a ≢ b) names w h.apart (fresh-apart names w fresh)
+  apart = all_pairs_push (λ a b. a ≢ b) names w h.apart (fresh-apart names w fresh);
 }
 
 some-name : (p : List ℕ → Bool) (names : List (List ℕ)) → list_any p names ≡ true → 0 < length names

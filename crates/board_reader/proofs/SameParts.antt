@@ -9,8 +9,19 @@ use Rattle.board_reader.specs.Reading.{Told, told}
 
 abbrev pub put_together : Draft → ℤ → ℤ → NameLists → Tables → BoardParts
 put_together d w h n t = record {
-  name = d.heading.name; width = w; height = h; layers = n.layers; classes = n.classes; rules = t.rules; kind_names = n.kinds;
-  kinds = d.kinds; pads = t.pads; blocks = d.blocks; net_names = n.nets; net_classes = d.net_classes; pins = d.pins
+  name = d.heading.name;
+  width = w;
+  height = h;
+  layers = n.layers;
+  classes = n.classes;
+  rules = t.rules;
+  kind_names = n.kinds;
+  kinds = d.kinds;
+  pads = t.pads;
+  blocks = d.blocks;
+  net_names = n.nets;
+  net_classes = d.net_classes;
+  pins = d.pins;
 }
 
 pub same-parts : (d : Draft) (w h : ℤ) (n : NameLists) (t : Tables) → w ≡ pos d.heading.width → h ≡ pos d.heading.height → n ≡ names_of_draft d → t ≡ tables_of_draft d

@@ -10,7 +10,10 @@ no-names most = record { few = omega arith; each = All-nil IsName; apart = λ i 
 
 pub empty-draft : IsDraft no_draft
 empty-draft = record {
-  layers = no-names 8; classes = no-names 4; kind_names = no-names 8; net_names = no-names 16384;
+  layers = no-names 8;
+  classes = no-names 4;
+  kind_names = no-names 8;
+  net_names = no-names 16384;
   tables = record { rules = All-nil _; pads = All-nil _ };
   kinds = record { even = refl; each = All-nil _ };
   nets = record { even = refl; each = All-nil _ };
@@ -18,5 +21,5 @@ empty-draft = record {
   pins = record { few = omega arith; each = All-nil _ };
   empty = λ _. (refl, refl);
   heading = λ n. absurd (n refl);
-  complete = λ e. absurd (cc)
+  complete = λ e. absurd (cc);
 }

@@ -29,8 +29,9 @@ or-true false = refl
 find-none : {X : Type 0} (p : X → Bool) (x : X) (xs : List X) → find p (x ∷ xs) ≡ None → (p x ≡ false) × (find p xs ≡ None)
 find-none p x xs e =
     elim (cases_Bool (p x)) [
-      inl t ↦ let said : find p (x ∷ xs) ≡ Some x = cond-true _ _ _ t in absurd (cc)
-    | inr f ↦ (f, sym (cond-false _ _ _ f) ∙ e) ]
+      | inl t ↦ let said : find p (x ∷ xs) ≡ Some x = cond-true _ _ _ t in absurd (cc)
+      | inr f ↦ (f, sym (cond-false _ _ _ f) ∙ e)
+    ]
 
 pub few-places : (f : Form) → length (places f) ≤ 7
 few-places form.Board = omega arith
@@ -79,10 +80,12 @@ unfolding kind_of_line
 kind-of-nine d line =
     let ws = words line in
     elim (cases_lt 9 (length ws)) [
-      inl long ↦ elim (cases_Bool (list_any is_other_byte line)) [
-        inl e ↦ other-first d line (take 9 ws) e ∙ sym (other-first d line ws e)
-      | inr e ↦ long-bad d line (take 9 ws) e (simp length-take (omega arith)) ∙ sym (long-bad d line ws e (omega arith)) ]
-    | inr short ↦ ap (kind_with d line) (take_all 9 ws short) ]
+      | inl long ↦ elim (cases_Bool (list_any is_other_byte line)) [
+        | inl e ↦ other-first d line (take 9 ws) e ∙ sym (other-first d line ws e)
+        | inr e ↦ long-bad d line (take 9 ws) e (simp length-take (omega arith)) ∙ sym (long-bad d line ws e (omega arith))
+      ]
+      | inr short ↦ ap (kind_with d line) (take_all 9 ws short)
+    ]
 
 none-pass : {X : Type 0} (p : X → Bool) (xs : List X) → find p xs ≡ None → AllByRecursion (λ x. p x ≡ false) xs
 none-pass p [] e = tt
@@ -94,11 +97,20 @@ pub passes : (d : Draft) (line : List ℕ) (ws : List (List ℕ)) (f : Form) →
 unfolding kind_with applies
 passes d line ws f e is =
     let none : find (applies d line (Some f) ws) order ≡ None = subst (λ o. find (applies d line o ws) order ≡ None) is e in
-    let a : AllByRecursion (λ k. applies d line (Some f) ws k ≡ false) order = none-pass (applies d line (Some f) ws) order none in
-    (a.0, record {
-      spelled = a.1.0; placed = a.1.1.0; numbers = a.1.1.1.0; known = a.1.1.1.1.0; fresh = a.1.1.1.1.1.0; ranges = a.1.1.1.1.1.1.0;
-      corners = a.1.1.1.1.1.1.1.0; few = a.1.1.1.1.1.1.1.1.0; whole = a.1.1.1.1.1.1.1.1.1.0
-    })
+    let a : AllByRecursion (λ k. applies d line (Some f) ws k ≡ false) order = none-pass (applies d line (Some f) ws) order none in (
+      a.0,
+      record {
+        spelled = a.1.0;
+        placed = a.1.1.0;
+        numbers = a.1.1.1.0;
+        known = a.1.1.1.1.0;
+        fresh = a.1.1.1.1.1.0;
+        ranges = a.1.1.1.1.1.1.0;
+        corners = a.1.1.1.1.1.1.1.0;
+        few = a.1.1.1.1.1.1.1.1.0;
+        whole = a.1.1.1.1.1.1.1.1.1.0;
+      },
+    )
 
 pub first-word : (ws : List (List ℕ)) → word (take 9 ws) 0 ≡ word ws 0
 first-word [] = refl
@@ -135,16 +147,19 @@ passes-line d line f e is = passes d line (words line) f e is
 pub step-keeps : (d e : Draft) (line : List ℕ) → IsDraft d → step d line ≡ Ok e → IsDraft e
 step-keeps d e line k said =
     elim (cases_Bool (counts line)) [
-      inr blank ↦ let same : d ≡ e = let s = skipped d line blank in cc in subst (λ x. IsDraft x) same k
-    | inl some ↦ elim (cases_option (kind_of_line d line)) [
-        inr bad ↦ let s = refused d line bad.0 some bad.1 in absurd (cc)
-      | inl none ↦ elim (cases_option (form_of (word (words line) 0))) [
-          inl f ↦ let s = passed d line None some none f in let same : d ≡ e = cc in subst (λ x. IsDraft x) same k
-        | inr f ↦
-            let s = passed d line (Some f.0) some none f.1 in
-            let same : after_form d f.0 (words line) ≡ e = cc in
-            let p = passes-line d line f.0 none f.1 in
-            subst (λ x. IsDraft x) same (keeps-form d f.0 (words line) k (words-are-words line p.0) p.1) ] ] ]
+      | inr blank ↦ let same : d ≡ e = let s = skipped d line blank in cc in subst (λ x. IsDraft x) same k
+      | inl some ↦ elim (cases_option (kind_of_line d line)) [
+        | inr bad ↦ let s = refused d line bad.0 some bad.1 in absurd (cc)
+        | inl none ↦ elim (cases_option (form_of (word (words line) 0))) [
+          | inl f ↦ let s = passed d line None some none f in let same : d ≡ e = cc in subst (λ x. IsDraft x) same k
+          | inr f ↦
+              let s = passed d line (Some f.0) some none f.1 in
+              let same : after_form d f.0 (words line) ≡ e = cc in
+              let p = passes-line d line f.0 none f.1 in
+              subst (λ x. IsDraft x) same (keeps-form d f.0 (words line) k (words-are-words line p.0) p.1)
+        ]
+      ]
+    ]
 
 -- the same of a list that has the first nine words
 pub line-kind : (d : Draft) (line : List ℕ) (ws : List (List ℕ)) (o : Option RefusalKind) → ws ≡ take 9 (words line) → o ≡ kind_with d line ws → kind_of_line d line ≡ o
@@ -165,5 +180,5 @@ passing-words d line ws w f nine none first is =
     record {
       good = subst (λ xs. All IsWord xs) (sym nine) (All-take IsWord 9 (words line) (words-are-words line p.0));
       breaks_none = p.1;
-      whole = nine ∙ all-words d f (words line) (subst (λ xs. BreaksNone d f xs) nine p.1)
+      whole = nine ∙ all-words d f (words line) (subst (λ xs. BreaksNone d f xs) nine p.1);
     }

@@ -28,8 +28,17 @@ abbrev pub no_draft : Draft
 no_draft = record {
   stage = Start;
   heading = record { version = 0; name = []; width = 0; height = 0 };
-  layers = []; classes = []; rules = []; kind_names = []; kinds = []; pads = [];
-  blocks = []; net_names = []; net_classes = []; pins = []; commands = []
+  layers = [];
+  classes = [];
+  rules = [];
+  kind_names = [];
+  kinds = [];
+  pads = [];
+  blocks = [];
+  net_names = [];
+  net_classes = [];
+  pins = [];
+  commands = [];
 }
 
 -- the number of the layer, the class and the kind that a word names
@@ -50,46 +59,64 @@ area_of ws = rect_of (span (number (word ws 2)) (number (word ws 4))) (span (num
 unfoldable pub after_form : Draft → Form → List (List ℕ) → Draft
 after_form d form.Board ws = record d {
   stage = Parts;
-  heading = record { version = number (word ws 1); name = word ws 2; width = number (word ws 3); height = number (word ws 4) }
+  heading = record { version = number (word ws 1); name = word ws 2; width = number (word ws 3); height = number (word ws 4) };
 }
 after_form d form.Layer ws = record d { layers = d.layers ++ word ws 1 ∷ [] }
 after_form d form.Class ws = record d { classes = d.classes ++ word ws 1 ∷ [] }
-after_form d form.Rule ws = record d { rules = d.rules ++ record {
-  row = layer_of d (word ws 1); column = class_of d (word ws 2);
-  value = record { half = pos (number (word ws 3)); gap = pos (number (word ws 4)) }
-} ∷ [] }
+after_form d form.Rule ws = record d {
+  rules = d.rules ++ record {
+    row = layer_of d (word ws 1);
+    column = class_of d (word ws 2);
+    value = record { half = pos (number (word ws 3)); gap = pos (number (word ws 4)) };
+  } ∷ [];
+}
 after_form d form.ViaKind ws = record d {
   kind_names = d.kind_names ++ word ws 1 ∷ [];
   kinds = d.kinds ++ record {
     first = record { 0 = min (layer_of d (word ws 2)) (layer_of d (word ws 3)) };
     last = record { 0 = max (layer_of d (word ws 2)) (layer_of d (word ws 3)) };
-    charge = number (word ws 4)
-  } ∷ []
+    charge = number (word ws 4);
+  } ∷ [];
 }
-after_form d form.Pad ws = record d { pads = d.pads ++ record {
-  row = kind_of d (word ws 1); column = class_of d (word ws 2); value = pos (number (word ws 3))
-} ∷ [] }
+after_form d form.Pad ws = record d {
+  pads = d.pads ++ record {
+    row = kind_of d (word ws 1);
+    column = class_of d (word ws 2);
+    value = pos (number (word ws 3));
+  } ∷ [];
+}
 after_form d form.Block ws = record d { blocks = d.blocks ++ record { layer = record { 0 = layer_of d (word ws 1) }; area = area_of ws } ∷ [] }
 after_form d form.Net ws = record d {
   net_names = d.net_names ++ word ws 1 ∷ [];
-  net_classes = d.net_classes ++ record { 0 = class_of d (word ws 2) } ∷ []
+  net_classes = d.net_classes ++ record { 0 = class_of d (word ws 2) } ∷ [];
 }
-after_form d form.Pin ws = record d { pins = d.pins ++ record {
-  net = record { 0 = number_in d.net_names (word ws 1) };
-  area = area_of ws;
-  first = record { 0 = min (layer_of d (word ws 6)) (layer_of d (word ws 7)) };
-  last = record { 0 = max (layer_of d (word ws 6)) (layer_of d (word ws 7)) }
-} ∷ [] }
+after_form d form.Pin ws = record d {
+  pins = d.pins ++ record {
+    net = record { 0 = number_in d.net_names (word ws 1) };
+    area = area_of ws;
+    first = record { 0 = min (layer_of d (word ws 6)) (layer_of d (word ws 7)) };
+    last = record { 0 = max (layer_of d (word ws 6)) (layer_of d (word ws 7)) };
+  } ∷ [];
+}
 after_form d form.End ws = record d { stage = Commands }
 after_form d form.Rules ws = record d { commands = d.commands ++ command.Rules ∷ [] }
 
 -- the board of what the lines say: a rule for each layer and in it each class, a pad for each kind and in it each class
 unfoldable pub parts_of : Draft → BoardParts
 parts_of d = record {
-  name = d.heading.name; width = pos d.heading.width; height = pos d.heading.height;
-  layers = d.layers; classes = d.classes; rules = table d.rules (length d.layers) (length d.classes);
-  kind_names = d.kind_names; kinds = d.kinds; pads = table d.pads (length d.kind_names) (length d.classes);
-  blocks = d.blocks; net_names = d.net_names; net_classes = d.net_classes; pins = d.pins
+  name = d.heading.name;
+  width = pos d.heading.width;
+  height = pos d.heading.height;
+  layers = d.layers;
+  classes = d.classes;
+  rules = table d.rules (length d.layers) (length d.classes);
+  kind_names = d.kind_names;
+  kinds = d.kinds;
+  pads = table d.pads (length d.kind_names) (length d.classes);
+  blocks = d.blocks;
+  net_names = d.net_names;
+  net_classes = d.net_classes;
+  pins = d.pins;
 }
 
 -- all names
@@ -100,5 +127,5 @@ names_of_draft d = record { layers = d.layers; classes = d.classes; kinds = d.ki
 abbrev pub tables_of_draft : Draft → Tables
 tables_of_draft d = record {
   rules = table d.rules (length d.layers) (length d.classes);
-  pads = table d.pads (length d.kind_names) (length d.classes)
+  pads = table d.pads (length d.kind_names) (length d.classes);
 }

@@ -7,7 +7,7 @@ ghost use Rattle.board_reader.specs.Kept.{IsDraft};
 ghost use Rattle.board_reader.specs.Reading.{told, reading_from};
 ghost use Rattle.board_reader.specs.Tables.{table};
 
-use crate::drafts::{Draft};
+use crate::drafts::Draft;
 use crate::forms::Stage;
 use crate::inputs::Input;
 use crate::refusals::{ReadInput, Refusal, RefusalKind};

@@ -18,7 +18,8 @@ fn is_word_byte(byte: u8) -> bool
 pub fn has_other_byte(line: &[u8]) -> bool
     ensures { result ≡ list_any is_other_byte line.now }
 {
-    line.iter().any(|byte| !(is_blank(*byte) || is_word_byte(*byte)))
+    line.iter()
+        .any(|byte| !(is_blank(*byte) || is_word_byte(*byte)))
 }
 
 /// Up to its first line feed, and after that.

@@ -106,8 +106,18 @@ fn numbers_names_and_ends(rt: HostRuntime) -> Result<(), Fail> {
         (1, "board 1 demo 99999999999999999999 20\n", 1, 4),
         (1, "board 2 demo 40 20\n", 1, 4),
         (1, "board one demo 40 20\n", 1, 3),
-        (6, "net a sig\nnet aaaaaaaaaaaaaaaaaaaaaaaaaaaaaaaaaaaaaaaaaaaaaaaaaaaaaaaaaaaaaaaa sig\n", 0, 0),
-        (6, "net a sig\nnet aaaaaaaaaaaaaaaaaaaaaaaaaaaaaaaaaaaaaaaaaaaaaaaaaaaaaaaaaaaaaaaaa sig\n", 7, 2),
+        (
+            6,
+            "net a sig\nnet aaaaaaaaaaaaaaaaaaaaaaaaaaaaaaaaaaaaaaaaaaaaaaaaaaaaaaaaaaaaaaaa sig\n",
+            0,
+            0,
+        ),
+        (
+            6,
+            "net a sig\nnet aaaaaaaaaaaaaaaaaaaaaaaaaaaaaaaaaaaaaaaaaaaaaaaaaaaaaaaaaaaaaaaaa sig\n",
+            7,
+            2,
+        ),
         (2, "layer top\r\n", 0, 0),
     ];
     for (number, text, line, kind) in cases {
@@ -122,7 +132,8 @@ fn whole_texts(rt: HostRuntime) -> Result<(), Fail> {
     let board = "board 1 b 9 9\n";
     let layers = "layer a\nlayer b\nlayer c\nlayer d\nlayer e\nlayer f\nlayer g\nlayer h\n";
     let classes = "class a\nclass b\nclass c\nclass d\n";
-    let kinds = "viakind a a b 0\nviakind b a b 0\nviakind c a b 0\nviakind d a b 0\nviakind e a b 0\nviakind f a b 0\nviakind g a b 0\nviakind h b a 0\n";
+    let kinds =
+        "viakind a a b 0\nviakind b a b 0\nviakind c a b 0\nviakind d a b 0\nviakind e a b 0\nviakind f a b 0\nviakind g a b 0\nviakind h b a 0\n";
     let cases: [(&str, &str, &str, u64, u8); 13] = [
         ("", "", "", 1, 9),
         ("", "", "\r", 2, 9),
@@ -143,7 +154,11 @@ fn whole_texts(rt: HostRuntime) -> Result<(), Fail> {
         bytes.extend_from_slice(one.as_bytes())?;
         bytes.extend_from_slice(two.as_bytes())?;
         bytes.extend_from_slice(three.as_bytes())?;
-        assert_eq!(rt; refusal_of(rt.alloc(), &bytes)?, (line, kind), "{one}{two}{three}");
+        assert_eq!(rt;
+            refusal_of(rt.alloc(), &bytes)?,
+            (line, kind),
+            "{one}{two}{three}"
+        );
     }
     let cases: [(&str, u64, u8); 2] = [
         ("viakind i a b 0\n", 12, 10),

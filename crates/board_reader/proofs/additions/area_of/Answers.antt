@@ -9,7 +9,7 @@ pub returns : goal.returns
 returns c =
     let ws = c.args.words.now in
     let columns : c.span.result ≡ span (number (word ws 2)) (number (word ws 4)) =
-      c.span.ensures ∙ (ap (λ w. span (number w) (number c.get-2.result.now)) c.get.ensures ∙ ap (λ w. span (number (word ws 2)) (number w)) c.get-2.ensures) in
+    c.span.ensures ∙ (ap (λ w. span (number w) (number c.get-2.result.now)) c.get.ensures ∙ ap (λ w. span (number (word ws 2)) (number w)) c.get-2.ensures) in
     let rows : c.span-2.result ≡ span (number (word ws 3)) (number (word ws 5)) =
-      c.span-2.ensures ∙ (ap (λ w. span (number w) (number c.get-4.result.now)) c.get-3.ensures ∙ ap (λ w. span (number (word ws 3)) (number w)) c.get-4.ensures) in
+    c.span-2.ensures ∙ (ap (λ w. span (number w) (number c.get-4.result.now)) c.get-3.ensures ∙ ap (λ w. span (number (word ws 3)) (number w)) c.get-4.ensures) in
     c.of.ensures ∙ (ap (λ i. rect_of i c.span-2.result) columns ∙ ap (rect_of (span (number (word ws 2)) (number (word ws 4)))) rows)

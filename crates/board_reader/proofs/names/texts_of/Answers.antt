@@ -10,6 +10,6 @@ text_of-requires c = λ i.
     let inside : k < length (map (λ v. v.items) c.args.words.now) = simp length-map c.loop-word-test.true in
     let ascii = ascii-bytes _ (c.requires k [] inside).word i in
     let same : get_or (map (λ v. v.items) c.args.words.now) k [] ≡ c.deref.result.now =
-      get_or-map (λ v. v.items) c.args.words.now k c.word-item.result [] c.loop-word-test.true ∙ (ap (λ v. v.items) (sym c.word-item.is) ∙ sym c.deref.ensures.value) in
+    get_or-map (λ v. v.items) c.args.words.now k c.word-item.result [] c.loop-word-test.true ∙ (ap (λ v. v.items) (sym c.word-item.is) ∙ sym c.deref.ensures.value) in
     let P : List ℕ → Type 0 = λ w. slice_index w i < 128 in
     subst P same ascii

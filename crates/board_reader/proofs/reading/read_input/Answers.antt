@@ -26,4 +26,3 @@ returns-in-Err-clause-reading c =
 
 pub returns-in-Ok-clause-forms : goal.returns-in-Ok-clause-forms
 returns-in-Ok-clause-forms c = forms_of_reading c.args.bytes.now c.end.result (returns-in-Ok-clause-reading c)
-

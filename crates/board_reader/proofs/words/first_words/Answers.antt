@@ -7,6 +7,6 @@ use Rattle.board_reader.proofs.words.first_words.Goals as goal
 pub loop-preserved : goal.loop-preserved
 loop-preserved c =
     let before : map (λ r. r.now) c.loop.items.items ++ take (9 - c.loop.counter) (c.in-Some.word.now ∷ words c.in-Some.after.now) ≡ take 9 (words c.args.line.now)
-      = rw (← c.in-Some.ensures) c.loop.invariant in
+    = rw (← c.in-Some.ensures) c.loop.invariant in
     let step = take-next 9 (map (λ r. r.now) c.loop.items.items) c.in-Some.word.now (words c.in-Some.after.now) _ c.loop.counter (omega arith) before in
     rw (c.in_ok-push.ensures.items, map-append) step

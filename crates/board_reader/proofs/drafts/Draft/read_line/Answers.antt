@@ -29,11 +29,12 @@ returns c =
     let some : counts line ≡ true = sym c.counts.ensures ∙ c.if-not-counts.false in
     let none = line-kind d line _ _ c.in_ok-words.ensures c.in_default.ensures in
     elim c.match-form_of.branch [
-      in-Some-form_of+in_ok-add w ↦
-        let f = w.in-Some-form_of.form in
-        let p = passing-words d line _ _ f c.in_ok-words.ensures c.in_default.ensures c.get.ensures w.in-Some-form_of.ensures in
-        passed d line (Some f) some none (line-form line _ _ _ c.in_ok-words.ensures c.get.ensures w.in-Some-form_of.ensures)
-        ∙ (ap (λ ws. Ok (after_form d f ws)) (sym p.whole) ∙ ap (λ e. Ok e) (sym (w.self-is ∙ w.in_ok-add.ensures)))
-    | in_default-form_of w ↦
-        passed d line None some none (line-form line _ _ _ c.in_ok-words.ensures c.get.ensures w.in_default-form_of.ensures)
-        ∙ ap (λ e. Ok e) (sym w.self-is) ]
+      | in-Some-form_of+in_ok-add w ↦
+          let f = w.in-Some-form_of.form in
+          let p = passing-words d line _ _ f c.in_ok-words.ensures c.in_default.ensures c.get.ensures w.in-Some-form_of.ensures in
+          passed d line (Some f) some none (line-form line _ _ _ c.in_ok-words.ensures c.get.ensures w.in-Some-form_of.ensures)
+          ∙ (ap (λ ws. Ok (after_form d f ws)) (sym p.whole) ∙ ap (λ e. Ok e) (sym (w.self-is ∙ w.in_ok-add.ensures)))
+      | in_default-form_of w ↦
+          passed d line None some none (line-form line _ _ _ c.in_ok-words.ensures c.get.ensures w.in_default-form_of.ensures)
+          ∙ ap (λ e. Ok e) (sym w.self-is)
+    ]

@@ -16,7 +16,7 @@ loop-rest-preserved c =
     record {
       draft = step-keeps d e line c.loop-rest.invariant.draft c.in-Ok.ensures;
       same = lines-next d e c.loop-rest.number c.loop-rest.rest.now line c.next_line.result.1.now c.next_line.ensures.lines (sym c.in-Ok.ensures) ∙ c.loop-rest.invariant.same;
-      small = omega (arith, c.next_line.ensures.shorter)
+      small = omega (arith, c.next_line.ensures.shorter);
     }
 
 pub returns : goal.returns
@@ -29,4 +29,4 @@ returns-in-Err c =
     let all = reading_from c.args.self.now 1 (lines c.args.text.now) in
     subst (λ e. TellsLines (Err e) all c.read_line.new.self) (sym c.at.ensures)
     (lines-fail c.loop-rest.self c.read_line.new.self c.read_line.new.self c.in-Err.error c.loop-rest.number c.loop-rest.rest.now c.next_line.result.0.now c.next_line.result.1.now
-      c.next_line.ensures.lines c.in-Err.ensures all c.loop-rest.invariant.same)
+    c.next_line.ensures.lines c.in-Err.ensures all c.loop-rest.invariant.same)

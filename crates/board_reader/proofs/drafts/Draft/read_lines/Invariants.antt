@@ -8,7 +8,7 @@ abbrev pub invariant-loop-rest : goal.invariant-loop-rest
 invariant-loop-rest l = record {
   draft : IsDraft l.self;
   same : reading_from l.self l.number (lines l.rest) ≡ reading_from l.fn.self 1 (lines l.text);
-  small : l.number + length l.rest ≤ 1 + length l.text
+  small : l.number + length l.rest ≤ 1 + length l.text;
 }
 
 abbrev pub decreases-loop-rest : goal.decreases-loop-rest

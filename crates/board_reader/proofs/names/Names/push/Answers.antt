@@ -14,6 +14,6 @@ returns-clause-ok c =
     let keys = c.self.inside.index.keys in
     let word : k.items ≡ c.args.word.now = c.in_ok-key.ensures.items in
     let absent : list_any (λ v. bytes_eq k.items v.items) keys ≡ false
-      = rw word (list_any-map (λ v. v.items) (bytes_eq c.args.word.now) keys ∙ (ap (λ ns. is_in ns c.args.word.now) c.self.view_is ∙ c.requires.fresh)) in
+    = rw word (list_any-map (λ v. v.items) (bytes_eq c.args.word.now) keys ∙ (ap (λ ns. is_in ns c.args.word.now) c.self.view_is ∙ c.requires.fresh)) in
     let grown : c.insert.new.self.keys ≡ keys ++ k ∷ [] = c.in_ok-insert.ensures.keys ∙ cond-false _ _ _ absent in
     rw (grown, map-append, word) (ap (λ ns. ns ++ c.args.word.now ∷ []) c.self.view_is)
