@@ -60,10 +60,11 @@ def full_board(path):
         out.write("end\n")
 
 
-def measured(command):
-    """Seconds, greatest memory in MiB, and exit status of a command."""
+def measured(command, path):
+    """Seconds, greatest memory in MiB, and exit status of a command whose input is a file."""
     start = time.monotonic()
-    child = subprocess.Popen(command, stdout=subprocess.DEVNULL, stderr=subprocess.DEVNULL)
+    with open(path, "rb") as text:
+        child = subprocess.Popen(command, stdin=text, stdout=subprocess.DEVNULL, stderr=subprocess.DEVNULL)
     _, status, usage = os.wait4(child.pid, 0)
     seconds = time.monotonic() - start
     return seconds, usage.ru_maxrss / 1024, os.waitstatus_to_exitcode(status)
@@ -84,8 +85,8 @@ def main():
         path = os.path.join(folder, name)
         if not os.path.exists(path):
             make(path)
-        seconds, memory, status = measured(["./contour", "run", path])
-        plain, _, _ = measured(["wc", "-l", path])
+        seconds, memory, status = measured(["./contour", "run"], path)
+        plain, _, _ = measured(["wc", "-l"], path)
         size = os.path.getsize(path)
         print(f"{name:10} {size:10} {seconds:8.2f} {memory:6.0f} {status:6} {plain:8.2f}")
 
