@@ -1,5 +1,0 @@
-pub mod Drawings
-pub mod Families
-pub mod Joins
-pub mod Places
-pub mod Standing
