@@ -296,6 +296,24 @@ keeps-rules d ws k h =
       complete = k.complete;
     }
 
+keeps-strips : (d : Draft) (ws : List (List ℕ)) → IsDraft d → BreaksNone d form.Strips ws → IsDraft (after_form d form.Strips ws)
+unfolding after_form is_complete
+keeps-strips d ws k h =
+    record {
+      layers = k.layers;
+      classes = k.classes;
+      kind_names = k.kind_names;
+      net_names = k.net_names;
+      tables = k.tables;
+      kinds = k.kinds;
+      nets = k.nets;
+      blocks = k.blocks;
+      pins = k.pins;
+      empty = k.empty;
+      heading = k.heading;
+      complete = k.complete;
+    }
+
 pub keeps-form : (d : Draft) (f : Form) (ws : List (List ℕ)) → IsDraft d → All IsWord ws → BreaksNone d f ws → IsDraft (after_form d f ws)
 keeps-form d form.Board ws k w h = keeps-board d ws k w h
 keeps-form d form.Layer ws k w h = keeps-layer d ws k w h
@@ -308,3 +326,4 @@ keeps-form d form.Net ws k w h = keeps-net d ws k w h
 keeps-form d form.Pin ws k w h = keeps-pin d ws k w h
 keeps-form d form.End ws k w h = keeps-end d ws k h
 keeps-form d form.Rules ws k w h = keeps-rules d ws k h
+keeps-form d form.Strips ws k w h = keeps-strips d ws k h

@@ -45,6 +45,7 @@ few-places form.Net = omega arith
 few-places form.Pin = omega arith
 few-places form.End = omega arith
 few-places form.Rules = omega arith
+few-places form.Strips = omega arith
 
 -- no form has more than eight words
 long-breaks : (d : Draft) (f : Form) (ws : List (List ℕ)) → 8 < length ws → breaks d f ws BadWord ≡ true

@@ -113,6 +113,7 @@ is_one_too_many d form.Net = nat_lt MAX_NETS (length d.net_names + 1)
 is_one_too_many d form.Pin = nat_lt MAX_PINS (length d.pins + 1)
 is_one_too_many d form.Block = nat_lt MAX_BLOCKS (length d.blocks + 1)
 is_one_too_many d form.Rules = nat_lt MAX_COMMANDS (length d.commands + 1)
+is_one_too_many d form.Strips = nat_lt MAX_COMMANDS (length d.commands + 1)
 is_one_too_many d f = false
 
 -- there is a layer and a class, each layer and class has a rule, and each kind and class a pad

@@ -22,9 +22,10 @@ spelling form.Net = codes "net"
 spelling form.Pin = codes "pin"
 spelling form.End = codes "end"
 spelling form.Rules = codes "rules"
+spelling form.Strips = codes "strips"
 
 abbrev pub all_forms : List Form
-all_forms = form.Board ∷ form.Layer ∷ form.Class ∷ form.Rule ∷ form.ViaKind ∷ form.Pad ∷ form.Block ∷ form.Net ∷ form.Pin ∷ form.End ∷ form.Rules ∷ []
+all_forms = form.Board ∷ form.Layer ∷ form.Class ∷ form.Rule ∷ form.ViaKind ∷ form.Pad ∷ form.Block ∷ form.Net ∷ form.Pin ∷ form.End ∷ form.Rules ∷ form.Strips ∷ []
 
 -- the form that a first word names
 unfoldable pub form_of : List ℕ → Option Form
@@ -47,6 +48,7 @@ places form.Net = NewName sort.Net ∷ KnownName sort.Class ∷ []
 places form.Pin = KnownName sort.Net ∷ Across ∷ Up ∷ Across ∷ Up ∷ KnownName sort.Layer ∷ KnownName sort.Layer ∷ []
 places form.End = []
 places form.Rules = []
+places form.Strips = KnownName sort.Layer ∷ KnownName sort.Class ∷ []
 
 -- the part of the text in which a form stands
 abbrev pub stage_of : Form → Stage
@@ -61,6 +63,7 @@ stage_of form.Net = Parts
 stage_of form.Pin = Parts
 stage_of form.End = Parts
 stage_of form.Rules = Commands
+stage_of form.Strips = Commands
 
 -- whether the two are one part of the text
 abbrev pub is_stage : Stage → Stage → Bool

@@ -187,4 +187,13 @@ impl Draft {
     {
         self.commands.push(Command::Rules)
     }
+
+    #[tactic(auto, unfolding(crate::specs::Drafts::after_form))]
+    pub fn add_strips(&mut self, words: &Words) -> Result<(), NoMemory>
+        ensures { OnOk result (self.new ≡ after_form self.old form.Strips words.now) }
+    {
+        let layer = LayerId(self.layers.number(words.get(1)));
+        let class = ClassId(self.classes.number(words.get(2)));
+        self.commands.push(Command::Strips(layer, class))
+    }
 }

@@ -43,6 +43,7 @@ pub enum Form {
     Pin,
     End,
     Rules,
+    Strips,
 }
 
 /// The parts of a board text.
@@ -56,7 +57,7 @@ pub enum Stage {
     Commands,
 }
 
-const FORMS: [Form; 11] = [
+const FORMS: [Form; 12] = [
     Form::Board,
     Form::Layer,
     Form::Class,
@@ -68,6 +69,7 @@ const FORMS: [Form; 11] = [
     Form::Pin,
     Form::End,
     Form::Rules,
+    Form::Strips,
 ];
 
 static BOARD: [Place; 4] = [
@@ -121,6 +123,11 @@ static PIN: [Place; 7] = [
     Place::KnownName(Sort::Layer),
 ];
 
+static STRIPS: [Place; 2] = [
+    Place::KnownName(Sort::Layer),
+    Place::KnownName(Sort::Class),
+];
+
 static ALONE: [Place; 0] = [];
 
 impl Form {
@@ -140,6 +147,7 @@ impl Form {
             Form::Pin => b"pin",
             Form::End => b"end",
             Form::Rules => b"rules",
+            Form::Strips => b"strips",
         }
     }
 
@@ -158,6 +166,7 @@ impl Form {
             Form::Net => &NET,
             Form::Pin => &PIN,
             Form::End | Form::Rules => &ALONE,
+            Form::Strips => &STRIPS,
         }
     }
 
@@ -176,7 +185,7 @@ impl Form {
             | Form::Net
             | Form::Pin
             | Form::End => Stage::Parts,
-            Form::Rules => Stage::Commands,
+            Form::Rules | Form::Strips => Stage::Commands,
         }
     }
 

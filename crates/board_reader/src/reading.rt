@@ -67,6 +67,7 @@ impl Draft {
                 Ok(())
             }
             Form::Rules => self.add_rules(words),
+            Form::Strips => self.add_strips(words),
         }
     }
 
@@ -112,7 +113,7 @@ impl Draft {
 /// Reads a board text: the board and the commands, or the first line that breaks a rule.
 pub fn read_input(alloc: Global, bytes: &[u8]) -> Result<Input, ReadInput>
     ensures reading { TellsReading result (reading bytes.now) }
-    ensures forms { IfOk result (λ i. All HasForm i.commands) }
+    ensures forms { IfOk result (λ i. All (HasForm i.board.parts) i.commands) }
 {
     let mut draft = Draft::new(alloc);
     match draft.read_lines(alloc, bytes) {

@@ -1,2 +1,4 @@
 pub mod Ended
 pub mod Replied
+pub mod Strips
+pub mod Whole

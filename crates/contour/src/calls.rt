@@ -1,16 +1,37 @@
-ghost use Rattle.std.specs.Prelude.{◌≡◌, ◌≤◌, ◌↔◌, ◌⊎◌, [], map, string_bytes, OnOk, IfErr};
+ghost use Rattle.std.specs.Prelude.{◌≡◌, ◌≤◌, ◌↔◌, ◌⊎◌, [], map, string_bytes, All, OnOk, IfErr};
 ghost use Rattle.io_edge.specs.Streams.{Rose, IsToldAs};
+ghost use Rattle.board_reader.specs.Built.{HasForm};
+ghost use Rattle.contour.specs.Answers.{AnswersAll};
 ghost use Rattle.contour.specs.Causes.{AnswersInput, AnswersNoneOrFirst, CutsInputShort, EndsCall, IsBeforeReplies, IsUnwritten, TellsStatus};
+ghost use Rattle.contour.specs.Endings.{EndsAnswers};
 ghost use Rattle.contour.specs.Inputs.{IfTold, IsToldAnd, IsAccepted, IsRefused};
 ghost use Rattle.contour.specs.Requests.{IsRequest, IsNoRequest};
 
-use crate::answers::answer_all;
+use crate::answers::answer_each;
 use crate::endings::{Ending, Status};
 use crate::inputs::read_text;
 use crate::lines::tell;
 use crate::requests::{Request, request_of};
+use board_model::{Board, Command};
+use flat_plane::FlatPlane;
 use io_edge::{Sink, Source};
 use std::alloc::Global;
+
+/// Makes the reply to each command from flat planes, and writes it before it begins the next.
+fn answer_all<K: Sink>(
+    alloc: Global,
+    board: &Board,
+    commands: &[Command],
+    out: &mut K,
+) -> Result<(), Ending>
+    requires { All (HasForm board.now.parts) commands.now }
+    ensures ok { OnOk result (AnswersAll board.now.parts commands.now (K.written out.old) (K.written out.new)) }
+    ensures err { IfErr result (EndsAnswers board.now.parts commands.now (K.written out.old) (K.written out.new) (K.faults out.old) (K.faults out.new)) }
+    ensures never_falls { K.faults out.old ≤ K.faults out.new }
+    ensures setup { K.setup out.new ≡ K.setup out.old }
+{
+    answer_each::<FlatPlane, K>(alloc, board, commands, out)
+}
 
 /// Reads a board text and writes the reply to each of its commands.
 fn run<S: Source, K: Sink>(alloc: Global, source: &mut S, out: &mut K) -> Result<(), Ending>

@@ -38,6 +38,25 @@ close top block 18 0 22 14 net a 23 5 23 5
 close top net a 23 5 23 5 net b 24 5 24 5
 ";
 
+const STRIPS_REPLY: &str = "strips top sig 16
+many 0 0 40 0
+many 0 1 0 19
+free 1 1 15 6
+many 16 1 24 16
+free 25 1 39 6
+many 40 1 40 19
+free 1 7 1 13
+one a 2 7 8 13
+free 9 7 15 13
+free 25 7 31 13
+one a 32 7 38 13
+free 39 7 39 13
+free 1 14 15 16
+free 25 14 39 16
+free 1 17 39 19
+many 0 20 40 20
+";
+
 const USAGE: &str = "usage: contour run [--quiet] / check / gen N / demo N\n";
 
 /// A text with one of its lines, counted from 1, replaced or, by an empty text, left out.
@@ -123,6 +142,19 @@ fn the_rules_are_answered(rt: HostRuntime) -> Result<(), Fail> {
     )?;
     let never = first_lines(alloc, PLAIN, 9)?;
     expect(&rt, &run, never.as_str(), Status::Done, "", "")
+}
+
+#[test]
+fn the_strips_of_a_plane_are_listed(rt: HostRuntime) -> Result<(), Fail> {
+    let asked = with_line(rt.alloc(), PLAIN, 10, "strips top sig")?;
+    expect(
+        &rt,
+        &["run"],
+        asked.as_str(),
+        Status::Done,
+        STRIPS_REPLY,
+        "",
+    )
 }
 
 #[test]

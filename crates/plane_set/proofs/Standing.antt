@@ -1,0 +1,73 @@
+-- Rows of planes, and the same rows as contracts see them.
+use Rattle.std.proofs.Common.{◌≡◌, ℕ, ◌<◌, List, [], ◌∷◌, length, map, get_or, All, Some, refl, sym, ◌∙◌, ap, subst, arith}
+use Rattle.std.specs.Prelude.{slice_get}
+use Rattle.std.proofs.lemmas.Option.{slice_get-get_or, slice_get_read, get_or_from_slice_get}
+use Rattle.std.proofs.lemmas.List.{length-map}
+use Rattle.std.proofs.lemmas.List.Elements.{All-nil, All-cons, All-head, All-tail, All-map, All-weaker}
+use Rattle.board_model.specs.declared.parts.BoardParts.{BoardParts}
+use Rattle.board_model.specs.declared.shapes.Shape.{Shape}
+use Rattle.plane_set.specs.declared.families.Family.{Family}
+use Rattle.plane_set.specs.Drawings.{Drawing, drawn_rows, Shows}
+use Rattle.plane_set.specs.Families.{rule_in, class_at, IsRow, AreRows, HaveAllClasses}
+use Rattle.plane_set.specs.Standing.{HasPlanes}
+use Rattle.plane_set.proofs.Places.{each_mapped, each_unmapped, get_mapped}
+
+all_unmapped : {X Y : Type 0} (P : Y → Type 0) (f : X → Y) (xs : List X) → All P (map f xs) → All (λ x. P (f x)) xs
+all_unmapped P f [] h = All-nil (λ x. P (f x))
+all_unmapped P f (x ∷ xs) h = All-cons (λ y. P (f y)) x xs (All-head P (f x) (map f xs) h) (all_unmapped P f xs (All-tail P (f x) (map f xs) h))
+
+module _ {R A : Type 0} (planes_of : R → List A) (draw : A → Drawing) (b : BoardParts) where
+  abbrev drawn : List R → List (List Drawing)
+  drawn rows = drawn_rows planes_of draw rows
+
+  pub rows_drawn : (f : Family) (shapes : List Shape) (rows : List R) → AreRows planes_of draw b f shapes rows → AreRows (λ (row : List Drawing). row) (λ (d : Drawing). d) b f shapes (drawn rows)
+  rows_drawn f shapes rows h =
+      each_mapped (λ (row : R). map draw (planes_of row)) (λ n (row : List Drawing). IsRow (λ (d : Drawing). d) b f n shapes row) rows
+      (λ n row e. each_mapped draw (λ c (d : Drawing). Shows b (rule_in b f n (class_at c)) shapes d) (planes_of row) (h n row e))
+
+  pub rows_undrawn : (f : Family) (shapes : List Shape) (rows : List R) → AreRows (λ (row : List Drawing). row) (λ (d : Drawing). d) b f shapes (drawn rows) → AreRows planes_of draw b f shapes rows
+  rows_undrawn f shapes rows h n row e =
+      each_unmapped draw (λ c (d : Drawing). Shows b (rule_in b f n (class_at c)) shapes d) (planes_of row)
+      (each_unmapped (λ (r : R). map draw (planes_of r)) (λ m (r : List Drawing). IsRow (λ (d : Drawing). d) b f m shapes r) rows h n row e)
+
+  classes_drawn : (rows : List R) → HaveAllClasses planes_of b rows → HaveAllClasses (λ (row : List Drawing). row) b (drawn rows)
+  classes_drawn rows h =
+      All-map (λ (row : List Drawing). length row ≡ length b.classes) (λ (row : R). map draw (planes_of row)) rows
+      (All-weaker (λ (row : R). length (planes_of row) ≡ length b.classes) (λ (row : R). length (map draw (planes_of row)) ≡ length b.classes) (λ row e. length-map (planes_of row) draw ∙ e) rows h)
+
+  pub classes_undrawn : (rows : List R) → HaveAllClasses (λ (row : List Drawing). row) b (drawn rows) → HaveAllClasses planes_of b rows
+  classes_undrawn rows h =
+      All-weaker (λ (row : R). length (map draw (planes_of row)) ≡ length b.classes) (λ (row : R). length (planes_of row) ≡ length b.classes) (λ row e. sym (length-map (planes_of row) draw) ∙ e) rows
+      (all_unmapped (λ (row : List Drawing). length row ≡ length b.classes) (λ (row : R). map draw (planes_of row)) rows h)
+
+  pub drawn_length : (rows : List R) → length (drawn rows) ≡ length rows
+  drawn_length rows = length-map rows (λ (row : R). map draw (planes_of row))
+
+  pub planes_drawn : (wires vias : List R) → length wires ≡ length b.layers → HaveAllClasses planes_of b wires → length vias ≡ length b.kinds → HaveAllClasses planes_of b vias → HasPlanes b (record { wires = drawn wires; vias = drawn vias })
+  planes_drawn wires vias l w k v = record {
+    layers = drawn_length wires ∙ l;
+    wire_classes = classes_drawn wires w;
+    kinds = drawn_length vias ∙ k;
+    via_classes = classes_drawn vias v;
+  }
+
+-- the plane at a place of rows that show some shapes
+pub shown_at : (b : BoardParts) (f : Family) (shapes : List Shape) (rows : List (List Drawing)) (n m : ℕ) (d : Drawing) → AreRows (λ (row : List Drawing). row) (λ (x : Drawing). x) b f shapes rows → n < length rows → slice_get (get_or rows n []) m ≡ Some d → Shows b (rule_in b f n (class_at m)) shapes d
+shown_at b f shapes rows n m d h l e = h n (get_or rows n []) (slice_get-get_or rows n [] l) m d e
+
+-- the plane at a place, as contracts see it
+module _ {R A : Type 0} (planes_of : R → List A) (draw : A → Drawing) (rows : List R) (table : List (List Drawing)) (view : drawn_rows planes_of draw rows ≡ table) where
+  row_at : (n : ℕ) (row : R) → n < length table → row ≡ get_or rows n row → get_or table n [] ≡ map draw (planes_of row)
+  row_at n row l e =
+      let count : length table ≡ length rows = ap length (sym view) ∙ length-map rows (λ (r : R). map draw (planes_of r)) in
+      let inside : n < length rows = omega arith in
+      let here : slice_get (drawn_rows planes_of draw rows) n ≡ Some (map draw (planes_of row)) = get_mapped (λ (r : R). map draw (planes_of r)) rows n row (slice_get_read rows (length rows) n row refl inside e) in
+      get_or_from_slice_get table n (map draw (planes_of row)) [] (subst (λ (t : List (List Drawing)). slice_get t n ≡ Some (map draw (planes_of row))) view here)
+
+  pub plane_at : (n m : ℕ) (row : R) (x : A) → n < length table → row ≡ get_or rows n row → m < length (get_or table n []) → x ≡ get_or (planes_of row) m x → slice_get (get_or table n []) m ≡ Some (draw x)
+  plane_at n m row x l e k d =
+      let at = row_at n row l e in
+      let count : length (get_or table n []) ≡ length (planes_of row) = ap length at ∙ length-map (planes_of row) draw in
+      let inside : m < length (planes_of row) = omega arith in
+      subst (λ (r : List Drawing). slice_get r m ≡ Some (draw x)) (sym at)
+      (get_mapped draw (planes_of row) m x (slice_get_read (planes_of row) (length (planes_of row)) m x refl inside d))

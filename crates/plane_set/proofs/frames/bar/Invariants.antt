@@ -1,0 +1,12 @@
+use Rattle.std.proofs.Common.{◌≡◌, take}
+use Rattle.plane_core.specs.Labels.{label_of, IsPlane}
+use Rattle.plane_set.specs.Joins.{IsBarred}
+use Rattle.plane_set.proofs.frames.bar.Given as goal
+
+-- the areas so far are left to no net
+abbrev pub invariant-loop-area : goal.invariant-loop-area
+invariant-loop-area g l = record {
+  region : g.P.Plane.region l.barred ≡ g.P.Plane.region l.fn.plane;
+  labels : IsBarred (g.P.Plane.region l.fn.plane) (take l.area-index l.areas) (label_of (g.P.Plane.strips l.fn.plane)) (label_of (g.P.Plane.strips l.barred));
+  canonical : IsPlane (g.P.Plane.region l.barred) (g.P.Plane.strips l.barred);
+}

@@ -1,0 +1,5 @@
+pub mod Drawings
+pub mod Families
+pub mod Joins
+pub mod Places
+pub mod Standing
