@@ -1,6 +1,10 @@
 -- What every shape of a board has.
-use Rattle.std.specs.Prelude.{◌<◌, length, Option, Some, None, ⊤}
+use Rattle.std.specs.Prelude.{◌<◌, ◌≤ℤ◌, ◌^◌, pos, length, Option, Some, None, ⊤}
+use Rattle.std.proofs.Common.{neg_ℤ}
 use Rattle.geo_rect.specs.declared.ids.NetId.{NetId}
+use Rattle.geo_rect.specs.declared.shapes.Interval.{Interval}
+use Rattle.geo_rect.specs.declared.shapes.Rect.{Rect}
+use Rattle.geo_rect.specs.Plane.{columns, rows}
 use Rattle.board_model.specs.declared.parts.BoardParts.{BoardParts}
 use Rattle.board_model.specs.declared.shapes.Shape.{Shape}
 
@@ -9,7 +13,19 @@ abbrev pub IsOwner : BoardParts → Option NetId → Type 0
 IsOwner b None = ⊤
 IsOwner b (Some n) = n.0 < length b.net_names
 
--- the shape stands on a layer of the board, and its owner is a net of the board, or no net
+-- the interval lies between -2^24 and 2^24
+pub record IsNearZero (i : Interval) : Type 0 where
+  pub from : neg_ℤ (pos (2 ^ 24)) ≤ℤ i.low
+  pub to : i.high ≤ℤ pos (2 ^ 24)
+
+-- the coordinates of the rectangle lie between -2^24 and 2^24
+pub record IsNearOrigin (r : Rect) : Type 0 where
+  pub across : IsNearZero (columns r)
+  pub up : IsNearZero (rows r)
+
+-- the shape stands on a layer of the board, its owner is a net of the board, or no net, and its area
+-- lies near the origin
 pub record IsKnown (b : BoardParts) (s : Shape) : Type 0 where
   pub layer : s.layer.0 < length b.layers
   pub owner : IsOwner b s.owner
+  pub area : IsNearOrigin s.area

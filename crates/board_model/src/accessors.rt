@@ -1,8 +1,6 @@
-ghost use Rattle.std.specs.Prelude.{◌≡◌, ◌<◌, length, IfOk, slice_index_or, slice_get, Some, None, IfSome, IfNone, [], Contains};
-ghost use Rattle.board_model.specs.Rules.{IsBoard};
-ghost use Rattle.board_model.specs.Lookup.{rule_of, pad_of, kind_of, class_of, pins_of};
-ghost use Rattle.board_model.specs.Violations.{violations_of};
-ghost use Rattle.board_model.specs.Shapes.{state_shapes};
+ghost use Rattle.std.specs.Prelude.{◌≡◌, ◌<◌, length, slice_index_or, []};
+ghost use Rattle.board_model.specs.Rules.{IsRule, IsMeasure, IsKind};
+ghost use Rattle.board_model.specs.Lookup.{rule_of, pad_of, kind_of, class_of};
 
 use crate::boards::Board;
 use crate::parts::{Block, Pin, Rule, ViaKind};
@@ -55,7 +53,8 @@ impl Board {
     pub fn rule(&self, l: LayerId, c: ClassId) -> Rule
         requires layer { l.0 < length self.now.parts.layers }
         requires class { c.0 < length self.now.parts.classes }
-        ensures { result ≡ rule_of self.now.parts l c }
+        ensures value { result ≡ rule_of self.now.parts l c }
+        ensures measures { IsRule result }
     {
         self.parts.rules.as_slice()[l.0 as usize * self.parts.classes.len() + c.0 as usize]
     }
@@ -64,7 +63,8 @@ impl Board {
     pub fn pad(&self, k: KindId, c: ClassId) -> i32
         requires kind { k.0 < length self.now.parts.kinds }
         requires class { c.0 < length self.now.parts.classes }
-        ensures { result ≡ pad_of self.now.parts k c }
+        ensures value { result ≡ pad_of self.now.parts k c }
+        ensures measure { IsMeasure result }
     {
         self.parts.pads.as_slice()[k.0 as usize * self.parts.classes.len() + c.0 as usize]
     }
@@ -72,7 +72,8 @@ impl Board {
     /// The layers that a kind of via joins, and what one costs.
     pub fn kind(&self, k: KindId) -> ViaKind
         requires { k.0 < length self.now.parts.kinds }
-        ensures { result ≡ kind_of self.now.parts k }
+        ensures value { result ≡ kind_of self.now.parts k }
+        ensures joins { IsKind (length self.now.parts.layers) result }
     {
         self.parts.kinds.as_slice()[k.0 as usize]
     }

@@ -1,4 +1,6 @@
 ghost use Rattle.std.specs.Prelude.{◌≡◌, ◌<◌, length};
+ghost use Rattle.geo_rect.specs.Axis.{IsGap};
+ghost use Rattle.board_model.specs.Rules.{IsMeasure};
 ghost use Rattle.board_model.specs.Known.{IsOwner};
 ghost use Rattle.board_model.specs.Spacing.{gap_to, gap_between};
 
@@ -12,7 +14,8 @@ impl Board {
         requires layer { l.0 < length self.now.parts.layers }
         requires class { c.0 < length self.now.parts.classes }
         requires owner { IsOwner self.now.parts owner }
-        ensures { result ≡ gap_to self.now.parts l c owner }
+        ensures value { result ≡ gap_to self.now.parts l c owner }
+        ensures measure { IsMeasure result }
     {
         let own = self.rule(l, c).gap;
         match owner {
@@ -26,7 +29,8 @@ impl Board {
         requires layer { l.0 < length self.now.parts.layers }
         requires first { IsOwner self.now.parts a }
         requires second { IsOwner self.now.parts b }
-        ensures { result ≡ gap_between self.now.parts l a b }
+        ensures value { result ≡ gap_between self.now.parts l a b }
+        ensures gap { IsGap result }
     {
         match (a, b) {
             (Some(m), _) => self.gap_to(l, self.class_of(m), b),

@@ -15,7 +15,7 @@ use Rattle.board_model.specs.Rules.{IsMeasure}
 use Rattle.board_model.specs.Spacing.{gap_to}
 use Rattle.board_model.specs.Labels.{Hits, IsInSpan, wire_plane, via_plane}
 use Rattle.board_model.proofs.LabelHits.{wire_hits, via_hits}
-use Rattle.grow_rules.specs.Given.{IsNearOrigin}
+use Rattle.board_model.specs.Known.{IsNearOrigin}
 
 module _ (b r : Rect) (h s g : ℤ) (half : IsMeasure h) (gap : IsMeasure s) (is : h +ℤ s ≡ g) (w : IsGrown b g r) where
   pub grown-points : (p : Point) → HasPoint r p ↔ IsTooClose (square p h) b s

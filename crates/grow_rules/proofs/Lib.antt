@@ -1,3 +1,2 @@
 pub mod FrameParts
 pub mod Grown
-pub mod Kept

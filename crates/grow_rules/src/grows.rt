@@ -3,11 +3,10 @@
 ghost use Rattle.std.specs.Prelude.{◌≡◌, ◌<◌, ◌↔◌, length};
 ghost use Rattle.geo_rect.specs.declared.shapes.Point.{Point};
 ghost use Rattle.geo_rect.specs.Plane.{HasPoint, IsBounded, IsTooClose, square};
-ghost use Rattle.board_model.specs.Known.{IsKnown};
+ghost use Rattle.board_model.specs.Known.{IsKnown, IsNearOrigin};
 ghost use Rattle.board_model.specs.Lookup.{kind_of};
 ghost use Rattle.board_model.specs.Labels.{Hits, IsInSpan, wire_plane, via_plane};
 ghost use Rattle.board_model.specs.Rules.{IsMeasure};
-ghost use Rattle.grow_rules.specs.Given.{IsNearOrigin};
 
 use board_model::{Board, Shape};
 use geo_rect::{ClassId, KindId, LayerId, Rect, grown};
@@ -16,7 +15,6 @@ use geo_rect::{ClassId, KindId, LayerId, Rect, grown};
 pub fn wire_grow(board: &Board, l: LayerId, c: ClassId, s: &Shape) -> Rect
     requires class { c.0 < length board.now.parts.classes }
     requires known { IsKnown board.now.parts s.now }
-    requires near { IsNearOrigin s.now.area }
     requires layer { s.now.layer ≡ l }
     ensures hits { (p : Point)
         → HasPoint result p ↔ Hits (wire_plane board.now.parts l c) p s.now }
@@ -33,7 +31,6 @@ pub fn via_grow(board: &Board, k: KindId, c: ClassId, s: &Shape) -> Rect
     requires kind { k.0 < length board.now.parts.kinds }
     requires class { c.0 < length board.now.parts.classes }
     requires known { IsKnown board.now.parts s.now }
-    requires near { IsNearOrigin s.now.area }
     requires span { IsInSpan (kind_of board.now.parts k) s.now.layer }
     ensures hits { (p : Point)
         → HasPoint result p ↔ Hits (via_plane board.now.parts k c) p s.now }

@@ -1,6 +1,5 @@
 ghost use Rattle.std.specs.Prelude.{◌≡◌};
-ghost use Rattle.board_model.specs.Known.{IsKnown};
-ghost use Rattle.grow_rules.specs.Given.{IsNearOrigin};
+ghost use Rattle.board_model.specs.Known.{IsKnown, IsNearOrigin};
 
 use crate::{frame, via_grow, wire_grow};
 use board_model::{Board, BoardParts, Rule, Shape, ViaKind};

@@ -3,7 +3,6 @@
 ghost use Rattle.std.specs.Prelude.{◌≡◌, ◌<◌, ◌∷◌, ◌++◌, [], List, length, IfOk, vec_items};
 ghost use Rattle.board_model.specs.declared.shapes.Shape.{Shape as OneShape};
 ghost use Rattle.board_model.specs.Known.{IsKnown};
-ghost use Rattle.grow_rules.specs.Given.{IsNearOrigin};
 ghost use Rattle.plane_set.specs.Drawings.{drawing_by, HasOneMore};
 ghost use Rattle.plane_set.specs.Families.{rows_in, rule_in, IsRow, AreRows, HaveAllClasses};
 
@@ -27,7 +26,6 @@ pub fn add_to_plane<P: Plane>(
     requires row { row < rows_in board.now.parts family }
     requires class { c.0 < length board.now.parts.classes }
     requires known { IsKnown board.now.parts s.now }
-    requires near { IsNearOrigin s.now.area }
     ensures { IfOk result (λ new. HasOneMore (rule_in board.now.parts family row c) s.now (drawing_by P.region P.strips plane) (drawing_by P.region P.strips new)) }
 {
     let domain = plane.domain();
@@ -52,7 +50,6 @@ fn add_to_row<P: Plane>(
     requires row { row < rows_in board.now.parts family }
     requires classes { length planes.items ≡ length board.now.parts.classes }
     requires known { IsKnown board.now.parts s.now }
-    requires near { IsNearOrigin s.now.area }
     ensures classes { IfOk result (λ new. length new.items ≡ length planes.items) }
     ensures shapes { IfOk result (λ new. (shapes : List OneShape)
         → IsRow (drawing_by P.region P.strips) board.now.parts family row shapes planes.items
@@ -78,7 +75,6 @@ pub fn add_to_rows<P: Plane>(
     requires rows { length rows.items ≡ rows_in board.now.parts family }
     requires classes { HaveAllClasses vec_items board.now.parts rows.items }
     requires known { IsKnown board.now.parts s.now }
-    requires near { IsNearOrigin s.now.area }
     ensures rows { IfOk result (λ new. length new.items ≡ length rows.items) }
     ensures classes { IfOk result (λ new. HaveAllClasses vec_items board.now.parts new.items) }
     ensures shapes { IfOk result (λ new. (shapes : List OneShape)

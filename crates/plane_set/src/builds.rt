@@ -3,7 +3,6 @@
 ghost use Rattle.std.specs.Prelude.{◌≡◌, ◌<◌, length, All, IfOk, vec_items};
 ghost use Rattle.board_model.specs.declared.shapes.Shape.{Shape as OneShape};
 ghost use Rattle.board_model.specs.Known.{IsKnown};
-ghost use Rattle.grow_rules.specs.Given.{IsNearOrigin};
 ghost use Rattle.plane_set.specs.Drawings.{drawing_by, Shows};
 ghost use Rattle.plane_set.specs.Families.{rows_in, rule_in, IsRow, AreRows, HaveAllClasses};
 
@@ -23,7 +22,6 @@ pub fn build_rows<P: Plane>(
     shapes: &[Shape],
 ) -> Result<Vec<Vec<P>>, NoMemory>
     requires known { All (IsKnown board.now.parts) shapes.now }
-    requires near { All (λ (s : OneShape). IsNearOrigin s.area) shapes.now }
     ensures rows { IfOk result (λ new. length new.items ≡ rows_in board.now.parts family) }
     ensures classes { IfOk result (λ new. HaveAllClasses vec_items board.now.parts new.items) }
     ensures shapes { IfOk result (λ new. AreRows vec_items (drawing_by P.region P.strips) board.now.parts family shapes.now new.items) }
@@ -45,7 +43,6 @@ fn build_row<P: Plane>(
 ) -> Result<Vec<P>, NoMemory>
     requires row { row < rows_in board.now.parts family }
     requires known { All (IsKnown board.now.parts) shapes.now }
-    requires near { All (λ (s : OneShape). IsNearOrigin s.area) shapes.now }
     ensures classes { IfOk result (λ new. length new.items ≡ length board.now.parts.classes) }
     ensures shapes { IfOk result (λ new. IsRow (drawing_by P.region P.strips) board.now.parts family row shapes.now new.items) }
 {
@@ -68,7 +65,6 @@ fn build_plane<P: Plane>(
     requires row { row < rows_in board.now.parts family }
     requires class { c.0 < length board.now.parts.classes }
     requires known { All (IsKnown board.now.parts) shapes.now }
-    requires near { All (λ (s : OneShape). IsNearOrigin s.area) shapes.now }
     ensures { IfOk result (λ plane. Shows board.now.parts (rule_in board.now.parts family row c) shapes.now (drawing_by P.region P.strips plane)) }
 {
     let mut plane = bare_plane(alloc, board, family, row, c)?;

@@ -7,7 +7,6 @@ ghost use Rattle.geo_rect.specs.Plane.{HasPoint};
 ghost use Rattle.board_model.specs.Known.{IsKnown};
 ghost use Rattle.board_model.specs.Labels.{Hits, wire_plane, via_plane};
 ghost use Rattle.board_model.specs.Rules.{IsMeasure};
-ghost use Rattle.grow_rules.specs.Given.{IsNearOrigin};
 ghost use Rattle.plane_set.specs.Families.{rows_in, rule_in};
 
 use board_model::{Board, Shape};
@@ -50,7 +49,6 @@ impl Family {
         requires row { row < rows_in board.now.parts self }
         requires class { c.0 < length board.now.parts.classes }
         requires known { IsKnown board.now.parts s.now }
-        requires near { IsNearOrigin s.now.area }
         ensures some { IfSome result (λ r. (p : Point)
             → HasPoint r p ↔ Hits (rule_in board.now.parts self row c) p s.now) }
         ensures none { IfNone result ((p : Point)
@@ -66,7 +64,6 @@ impl Family {
 fn wire_area(board: &Board, l: LayerId, c: ClassId, s: &Shape) -> Option<Rect>
     requires class { c.0 < length board.now.parts.classes }
     requires known { IsKnown board.now.parts s.now }
-    requires near { IsNearOrigin s.now.area }
     ensures some { IfSome result (λ r. (p : Point)
         → HasPoint r p ↔ Hits (wire_plane board.now.parts l c) p s.now) }
     ensures none { IfNone result ((p : Point)
@@ -82,7 +79,6 @@ fn via_area(board: &Board, k: KindId, c: ClassId, s: &Shape) -> Option<Rect>
     requires kind { k.0 < length board.now.parts.kinds }
     requires class { c.0 < length board.now.parts.classes }
     requires known { IsKnown board.now.parts s.now }
-    requires near { IsNearOrigin s.now.area }
     ensures some { IfSome result (λ r. (p : Point)
         → HasPoint r p ↔ Hits (via_plane board.now.parts k c) p s.now) }
     ensures none { IfNone result ((p : Point)

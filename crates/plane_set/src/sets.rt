@@ -4,7 +4,6 @@ ghost use Rattle.board_model.specs.declared.parts.BoardParts.{BoardParts};
 ghost use Rattle.board_model.specs.Labels.{wire_plane, via_plane};
 ghost use Rattle.board_model.specs.Known.{IsKnown};
 ghost use Rattle.board_model.specs.Shapes.{board_shapes};
-ghost use Rattle.grow_rules.specs.Given.{IsNearOrigin};
 ghost use Rattle.plane_set.specs.Drawings.{drawing_by, Shows};
 ghost use Rattle.plane_set.specs.Standing.{HasPlanes, StandsFor};
 
@@ -55,7 +54,6 @@ impl<P: Plane> PlaneSet<P> {
     pub fn add(self, alloc: Global, board: &Board, s: &Shape) -> Result<PlaneSet<P>, NoMemory>
         requires planes { HasPlanes board.now.parts self }
         requires known { IsKnown board.now.parts s.now }
-        requires near { IsNearOrigin s.now.area }
         ensures planes { IfOk result (λ set. HasPlanes board.now.parts set) }
         ensures shapes { IfOk result (λ set. (shapes : List OneShape)
             → StandsFor board.now.parts shapes self

@@ -1,29 +1,13 @@
-use Rattle.std.proofs.Common.{◌≡◌, List, All, sym, ◌∙◌, subst}
+use Rattle.std.proofs.Common.{◌≡◌, List, ◌∙◌, subst}
 use Rattle.std.specs.Prelude.{vec_items}
 use Rattle.board_model.specs.declared.shapes.Shape.{Shape}
 use Rattle.board_model.specs.Shapes.{board_shapes}
 use Rattle.board_model.proofs.StateShapes.{only_the_board}
-use Rattle.grow_rules.specs.Given.{IsNearOrigin}
 use Rattle.plane_set.specs.declared.families.Family.TheVariants.{Wires, Vias}
 use Rattle.plane_set.specs.Drawings.{drawing_by}
 use Rattle.plane_set.specs.Families.{AreRows}
-use Rattle.plane_set.proofs.Near.{board_near}
 use Rattle.plane_set.proofs.Standing.{rows_drawn, planes_drawn}
 use Rattle.plane_set.proofs.sets.PlaneSet.build.Goals as goal
-
-pub build_rows-requires-clause-near : goal.build_rows-requires-clause-near
-build_rows-requires-clause-near g c =
-    let b = c.args.board.now.parts in
-    let lists = c.in_ok-made.made.lists in
-    let e : c.as_slice.result.now ≡ board_shapes b = c.as_slice.ensures ∙ c.in_ok-shapes.ensures.shapes ∙ only_the_board b lists c.in_ok-made.ensures.none_made in
-    subst (λ (ss : List Shape). All (λ (s : Shape). IsNearOrigin s.area) ss) (sym e) (board_near b c.args.board.now.kept)
-
-pub build_rows-requires-2-clause-near : goal.build_rows-requires-2-clause-near
-build_rows-requires-2-clause-near g c =
-    let b = c.args.board.now.parts in
-    let lists = c.in_ok-made.made.lists in
-    let e : c.as_slice-2.result.now ≡ board_shapes b = c.as_slice-2.ensures ∙ c.in_ok-shapes.ensures.shapes ∙ only_the_board b lists c.in_ok-made.ensures.none_made in
-    subst (λ (ss : List Shape). All (λ (s : Shape). IsNearOrigin s.area) ss) (sym e) (board_near b c.args.board.now.kept)
 
 pub returns : goal.returns
 returns g c =
