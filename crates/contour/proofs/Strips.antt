@@ -26,7 +26,7 @@ use Rattle.plane_core.specs.Labels.{label_of}
 use Rattle.plane_core.specs.Strips.{AreStrips}
 use Rattle.plane_core.proofs.Alike.{corner}
 use Rattle.plane_core.proofs.Labelled.{strips_agree}
-use Rattle.contour.proofs.Whole.{whole_choice, corner_label}
+use Rattle.plane_core.proofs.Whole.{whole_choice, corner_label}
 use Rattle.plane_set.specs.Drawings.{Drawing, Shows}
 use Rattle.plane_set.specs.Standing.{PlaneTable, HasPlanes}
 use Rattle.contour.specs.Answers.{nothing_made, PrintsStrips}

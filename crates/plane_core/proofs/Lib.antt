@@ -8,3 +8,4 @@ pub mod Ordered
 pub mod Runs
 pub mod Sharing
 pub mod Turns
+pub mod Whole

@@ -6,6 +6,7 @@ ghost use Rattle.geo_rect.specs.declared.shapes.Rect.{Rect};
 ghost use Rattle.geo_rect.specs.Plane.{HasPoint};
 ghost use Rattle.plane_core.specs.declared.strips.Strip.{Strip};
 ghost use Rattle.plane_core.specs.declared.sides.Side.{Side};
+ghost use Rattle.plane_core.specs.Choice.{IsChoice, Meets};
 ghost use Rattle.plane_core.specs.Labels.{label_of, IsPlane};
 ghost use Rattle.plane_core.specs.LocalForm.{HasLocalForm};
 ghost use Rattle.plane_core.specs.Strips.{AreStrips, IsStrip};
@@ -14,6 +15,11 @@ ghost use Rattle.plane_core.specs.Sides.{turned, turned_point};
 /// A labelled domain has one list of strips: two lists that are its strips are equal.
 pub fn one_list_of_strips()
     ensures { (domain : Rect) (label_at : Point → Label) (ss ts : List Strip) → AreStrips domain label_at ss → AreStrips domain label_at ts → ss ≡ ts }
+{}
+
+/// The strips that meet the whole domain are all of them.
+pub fn all_strips_meet_the_domain()
+    ensures { (domain : Rect) (label_at : Point → Label) (ss found : List Strip) → AreStrips domain label_at ss → IsChoice ss (λ s. Meets s.area domain) found → found ≡ ss }
 {}
 
 /// The list of the strips of a labelled domain leaves none out.

@@ -10,8 +10,8 @@ mod sides;
 mod strips;
 
 pub use laws::{
-    each_strip_is_listed, local_form_is_enough, one_list_of_strips, points_turn_with_rectangles,
-    strips_give_labels, strips_have_local_form,
+    all_strips_meet_the_domain, each_strip_is_listed, local_form_is_enough, one_list_of_strips,
+    points_turn_with_rectangles, strips_give_labels, strips_have_local_form,
 };
 pub use overlaps::{have_common, meets};
 pub use planes::Plane;
