@@ -1,5 +1,5 @@
 -- What every shape of a board has.
-use Rattle.std.specs.Prelude.{◌<◌, ◌≤ℤ◌, ◌^◌, pos, length, Option, Some, None, ⊤}
+use Rattle.std.specs.Prelude.{◌<◌, ◌≤ℤ◌, ◌^◌, ◌+◌, pos, length, Option, Some, None, ⊤}
 use Rattle.std.proofs.Common.{neg_ℤ}
 use Rattle.geo_rect.specs.declared.ids.NetId.{NetId}
 use Rattle.geo_rect.specs.declared.shapes.Interval.{Interval}
@@ -13,12 +13,13 @@ abbrev pub IsOwner : BoardParts → Option NetId → Type 0
 IsOwner b None = ⊤
 IsOwner b (Some n) = n.0 < length b.net_names
 
--- the interval lies between -2^24 and 2^24
+-- the interval lies between -(2^24 + 2^16) and 2^24 + 2^16
 pub record IsNearZero (i : Interval) : Type 0 where
-  pub from : neg_ℤ (pos (2 ^ 24)) ≤ℤ i.low
-  pub to : i.high ≤ℤ pos (2 ^ 24)
+  pub from : neg_ℤ (pos (2 ^ 24 + 2 ^ 16)) ≤ℤ i.low
+  pub to : i.high ≤ℤ pos (2 ^ 24 + 2 ^ 16)
 
--- the coordinates of the rectangle lie between -2^24 and 2^24
+-- the coordinates of the rectangle lie between -(2^24 + 2^16) and 2^24 + 2^16: farther than any wire or
+-- via reaches whose middle lies between -2^24 and 2^24
 pub record IsNearOrigin (r : Rect) : Type 0 where
   pub across : IsNearZero (columns r)
   pub up : IsNearZero (rows r)

@@ -49,8 +49,8 @@ impl<P: Plane> PlaneSet<P> {
         Ok(PlaneSet { wires, vias })
     }
 
-    /// The planes with one more shape, whose coordinates lie between -2^24 and 2^24. After
-    /// `NoMemory` the planes are gone.
+    /// The planes with one more shape, which is one that may stand on the board. After `NoMemory` the
+    /// planes are gone.
     pub fn add(self, alloc: Global, board: &Board, s: &Shape) -> Result<PlaneSet<P>, NoMemory>
         requires planes { HasPlanes board.now.parts self }
         requires known { IsKnown board.now.parts s.now }
