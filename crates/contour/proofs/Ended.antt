@@ -1,6 +1,5 @@
 -- Endings of a part of a call as endings of the call.
 use Rattle.std.proofs.Common.{◌≡◌, ℕ, List, Option, Some, None, sym, subst, inr}
-use Rattle.io_edge.specs.Streams.{Rose}
 use Rattle.board_model.specs.declared.commands.Command.{Command}
 use Rattle.board_model.specs.declared.parts.BoardParts.{BoardParts}
 use Rattle.board_reader.specs.Reading.{Told}
@@ -8,7 +7,7 @@ use Rattle.contour.specs.declared.endings.Ending.{Ending}
 use Rattle.contour.specs.declared.endings.Ending.TheVariants.{BadWords, TooLong, Refused, ReadFault, WriteFault, NoMemory}
 use Rattle.contour.specs.Answers.{AnswersAll}
 use Rattle.contour.specs.Causes.{AnswersInput, AnswersNoneOrFirst, CutsInputShort, EndsCall, IsBeforeReplies}
-use Rattle.contour.specs.Endings.{EndsAnswers, EndsReading}
+use Rattle.contour.specs.Endings.{EndsAnswers}
 use Rattle.contour.specs.Inputs.{IfTold, IsAcceptedAs}
 
 pub if_told-weaker : (left : Option (List ℕ)) (P Q : List ℕ → Type 0) → ((bytes : List ℕ) → P bytes → Q bytes) → IfTold left P → IfTold left Q

@@ -1,9 +1,9 @@
 -- Replies one after another.
-use Rattle.std.proofs.Common.{◌≡◌, ℕ, zero, suc, ◌+◌, ◌<◌, List, [], ◌∷◌, ◌++◌, length, take, get_or, Option, Some, None, refl, sym, ap, ◌∙◌, subst, append_assoc, append-nil, add-one, arith}
-use Rattle.io_edge.specs.Streams.{Appends, AppendsPart, Rose}
+use Rattle.std.proofs.Common.{ℕ, zero, suc, ◌+◌, ◌<◌, List, [], ◌∷◌, ◌++◌, length, take, get_or, Option, Some, None, refl, sym, ap, ◌∙◌, subst, append_assoc, append-nil, add-one, arith}
+use Rattle.io_edge.specs.Streams.{Appends}
 use Rattle.board_model.specs.declared.commands.Command.{Command}
 use Rattle.board_model.specs.declared.parts.BoardParts.{BoardParts}
-use Rattle.contour.specs.Answers.{IsReply, AreReplies, AnswersAll, AnswersOne, AnswersPart, AnswersFirst, IsCutShort}
+use Rattle.contour.specs.Answers.{IsReply, AreReplies, AnswersAll, AnswersOne}
 
 pub Appends-nil : (held : Option (List ℕ)) → Appends held held []
 Appends-nil None = tt

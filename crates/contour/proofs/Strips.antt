@@ -1,12 +1,11 @@
 -- The strips of a wire plane of the board: what they are strips of, and that their labels are known.
-use Rattle.std.proofs.Common.{◌≡◌, ℕ, ◌<◌, List, [], length, get_or, All, Some, Option, sym, ◌∙◌, ap, subst, replicate, refl}
+use Rattle.std.proofs.Common.{◌≡◌, ℕ, ◌<◌, List, [], length, get_or, All, sym, subst, refl}
 use Rattle.std.specs.Prelude.{Contains}
 use Rattle.std.proofs.lemmas.List.Elements.{All-contains, All-contains_itself, All-weaker, All-replicate, All-get_or}
 use Rattle.geo_rect.specs.declared.ids.ClassId.{ClassId}
 use Rattle.geo_rect.specs.declared.ids.Label.{Label}
 use Rattle.geo_rect.specs.declared.ids.Label.TheVariants.{Free, One, Many}
 use Rattle.geo_rect.specs.declared.ids.LayerId.{LayerId}
-use Rattle.geo_rect.specs.declared.ids.NetId.{NetId}
 use Rattle.geo_rect.specs.declared.shapes.Point.{Point}
 use Rattle.geo_rect.specs.declared.shapes.Rect.{Rect}
 use Rattle.geo_rect.specs.Plane.{HasPoint, LiesIn}
@@ -16,10 +15,9 @@ use Rattle.board_model.specs.declared.parts.BoardParts.{BoardParts}
 use Rattle.board_model.specs.declared.shapes.Shape.{Shape}
 use Rattle.board_model.specs.Known.{IsKnown, IsOwner}
 use Rattle.board_model.specs.Labels.{PlaneRule, label_among, wire_plane}
-use Rattle.board_model.specs.Rules.{IsBoard}
 use Rattle.board_model.specs.Shapes.{board_shapes, state_shapes}
 use Rattle.board_model.proofs.LabelLaws.{says_what}
-use Rattle.board_model.proofs.StateShapes.{board_known, only_the_board}
+use Rattle.board_model.proofs.StateShapes.{only_the_board}
 use Rattle.plane_core.specs.declared.strips.Strip.{Strip}
 use Rattle.plane_core.specs.Choice.{IsChoice, Meets}
 use Rattle.plane_core.specs.Labels.{label_of}

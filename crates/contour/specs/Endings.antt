@@ -5,7 +5,6 @@ use Rattle.io_edge.specs.declared.reading.ReadEnd.{ReadEnd}
 use Rattle.io_edge.specs.declared.reading.ReadEnd.TheVariants as read
 use Rattle.board_model.specs.declared.parts.BoardParts.{BoardParts}
 use Rattle.board_model.specs.declared.commands.Command.{Command}
-use Rattle.board_reader.specs.declared.refusals.Refusal.{Refusal}
 use Rattle.board_reader.specs.declared.refusals.ReadInput.{ReadInput}
 use Rattle.board_reader.specs.declared.refusals.ReadInput.TheVariants as input
 use Rattle.board_reader.specs.Kinds.{number_of_kind}

@@ -1,5 +1,5 @@
 -- The text of a reply: lines that end with one line feed, words with one space between them.
-use Rattle.std.specs.Prelude.{ℕ, ◌<◌, ◌∷◌, [], ◌++◌, List, length, Option, Some, None, codes, decimal, slice_index_or}
+use Rattle.std.specs.Prelude.{ℕ, ◌<◌, [], ◌++◌, List, length, Option, Some, None, codes, decimal, slice_index_or}
 use Rattle.std.specs.List.{flat_map}
 use Rattle.std.specs.Fmt.{signed_decimal}
 use Rattle.geo_rect.specs.declared.ids.ClassId.{ClassId}

@@ -2,7 +2,7 @@ ghost use Rattle.std.specs.Prelude.{◌≡◌, ◌≤◌, ◌<◌, length, All, 
 ghost use Rattle.board_model.specs.Shapes.{board_shapes};
 ghost use Rattle.board_reader.specs.Built.{HasForm};
 ghost use Rattle.plane_set.specs.Standing.{StandsFor};
-ghost use Rattle.contour.specs.Answers.{nothing_made, AnswersOne, AnswersAll, PrintsStrips};
+ghost use Rattle.contour.specs.Answers.{nothing_made, AnswersOne, AnswersAll, IsReply, PrintsStrips};
 ghost use Rattle.contour.specs.Endings.{EndsAnswer, EndsAnswers};
 ghost use Rattle.contour.specs.Planes.{AreOfBoard, AreBuiltFor};
 
@@ -51,6 +51,33 @@ fn planes_for<P: Plane>(
     }
 }
 
+/// The reply to a command.
+fn reply_to<P: Plane>(
+    alloc: Global,
+    board: &Board,
+    made: &Made,
+    planes: &Option<PlaneSet<P>>,
+    command: Command,
+) -> Result<Vec<u8>, NoMemory>
+    requires nothing { made.now.lists ≡ nothing_made board.now.parts }
+    requires of_board { AreOfBoard board.now.parts planes.now }
+    requires built { AreBuiltFor command planes.now }
+    requires form { HasForm board.now.parts command }
+    ensures { IfOk result (λ text. IsReply board.now.parts command text.items) }
+{
+    match command {
+        Command::Rules => {
+            let found = violations(alloc, board, made)?;
+            print_rules(alloc, board, found.as_slice())
+        }
+        Command::Strips(layer, class) => {
+            let Some(set) = planes else { unreachable!() };
+            strips_reply(alloc, board, set, layer, class)
+        }
+        _ => unreachable!(),
+    }
+}
+
 /// Makes the reply to one command and writes it.
 fn answer<P: Plane, K: Sink>(
     alloc: Global,
@@ -69,21 +96,9 @@ fn answer<P: Plane, K: Sink>(
     ensures never_falls { K.faults out.old ≤ K.faults out.new }
     ensures setup { K.setup out.new ≡ K.setup out.old }
 {
-    match command {
-        Command::Rules => {
-            let found = violations(alloc, board, made)?;
-            let text = print_rules(alloc, board, found.as_slice())?;
-            write_all(out, text.as_slice())?;
-            Ok(())
-        }
-        Command::Strips(layer, class) => {
-            let Some(set) = planes else { unreachable!() };
-            let text = strips_reply(alloc, board, set, layer, class)?;
-            write_all(out, text.as_slice())?;
-            Ok(())
-        }
-        _ => unreachable!(),
-    }
+    let text = reply_to(alloc, board, made, planes, command)?;
+    write_all(out, text.as_slice())?;
+    Ok(())
 }
 
 /// Makes the reply to each command, and writes it before it begins the next. The planes of the board
