@@ -1,7 +1,8 @@
 -- What holds of each item of a list at its place, as the list grows at its end.
-use Rattle.std.proofs.Common.{◌≡◌, ℕ, zero, suc, ◌+◌, List, [], ◌∷◌, ◌++◌, length, map, Some, ◌⊎◌, inl, inr, refl, sym, ◌∙◌, ap, subst}
+use Rattle.std.proofs.Common.{All, ◌≡◌, ℕ, zero, suc, ◌+◌, List, [], ◌∷◌, ◌++◌, length, map, Some, ◌⊎◌, inl, inr, refl, sym, ◌∙◌, ap, subst}
 use Rattle.std.specs.Prelude.{slice_get}
 use Rattle.std.proofs.lemmas.List.{length_push}
+use Rattle.std.proofs.lemmas.List.Elements.{All-nil, All-cons, All-head, All-tail, All-push}
 use Rattle.std.proofs.lemmas.Option.{none-some, same_Some}
 use Rattle.plane_set.specs.Places.{EachAt}
 
@@ -56,6 +57,28 @@ each_more Old New xs ys x y n at same before step h =
     let last : Old n x = subst (λ (m : ℕ). Old m x) (sym at) (each_last Old xs x h) in
     let here : New (length ys) y = subst (λ (m : ℕ). New m y) (at ∙ sym same) (step last) in
     each_push New ys y (before (each_front Old xs x h)) here
+
+module _ {A : Type 0} (P : A → Type 0) where
+  all_front : (xs : List A) (x : A) → All P (xs ++ x ∷ []) → All P xs
+  all_front [] x h = All-nil P
+  all_front (y ∷ xs) x h = All-cons P y xs (All-head P y (xs ++ x ∷ []) h) (all_front xs x (All-tail P y (xs ++ x ∷ []) h))
+
+  all_last : (xs : List A) (x : A) → All P (xs ++ x ∷ []) → P x
+  all_last [] x h = All-head P x [] h
+  all_last (y ∷ xs) x h = all_last xs x (All-tail P y (xs ++ x ∷ []) h)
+
+  -- what holds of each item at its place, whatever the place, holds of all
+  pub all_from_each : (xs : List A) → EachAt (λ n. P) xs → All P xs
+  all_from_each [] h = All-nil P
+  all_from_each (x ∷ xs) h = All-cons P x xs (h zero x refl) (all_from_each xs (λ n y e. h (suc n) y e))
+
+  pub each_from_all : (xs : List A) → All P xs → EachAt (λ n. P) xs
+  each_from_all [] h n y e = absurd (none-some y e)
+  each_from_all (x ∷ xs) h zero y e = subst P (same_Some x y e) (All-head P x xs h)
+  each_from_all (x ∷ xs) h (suc n) y e = each_from_all xs (All-tail P x xs h) n y e
+
+pub all_more : {A B : Type 0} (P : A → Type 0) (Q : B → Type 0) (xs : List A) (ys : List B) (x : A) (y : B) → (All P xs → All Q ys) → (P x → Q y) → All P (xs ++ x ∷ []) → All Q (ys ++ y ∷ [])
+all_more P Q xs ys x y before step h = All-push Q ys y (before (all_front P xs x h)) (step (all_last P xs x h))
 
 pub length_both : {A B : Type 0} (xs : List A) (ys zs : List B) (x : A) (y : B) → zs ≡ ys ++ y ∷ [] → length ys ≡ length xs → length zs ≡ length (xs ++ x ∷ [])
 length_both xs ys zs x y e h = ap length e ∙ length_push ys y ∙ ap (λ n. n + 1) h ∙ sym (length_push xs x)

@@ -3,14 +3,14 @@ use Rattle.std.proofs.Common.{◌≡◌, ℕ, ◌<◌, List, [], ◌∷◌, leng
 use Rattle.std.specs.Prelude.{slice_get}
 use Rattle.std.proofs.lemmas.Option.{slice_get-get_or, slice_get_read, get_or_from_slice_get}
 use Rattle.std.proofs.lemmas.List.{length-map}
-use Rattle.std.proofs.lemmas.List.Elements.{All-nil, All-cons, All-head, All-tail, All-map, All-weaker}
+use Rattle.std.proofs.lemmas.List.Elements.{All-nil, All-cons, All-head, All-tail, All-get_or, All-map, All-weaker}
 use Rattle.board_model.specs.declared.parts.BoardParts.{BoardParts}
 use Rattle.board_model.specs.declared.shapes.Shape.{Shape}
 use Rattle.plane_set.specs.declared.families.Family.{Family}
-use Rattle.plane_set.specs.Drawings.{Drawing, drawn_rows, Shows}
-use Rattle.plane_set.specs.Families.{rule_in, class_at, IsRow, AreRows, HaveAllClasses}
-use Rattle.plane_set.specs.Standing.{HasPlanes}
-use Rattle.plane_set.proofs.Places.{each_mapped, each_unmapped, get_mapped}
+use Rattle.plane_set.specs.Drawings.{Drawing, drawn_rows, IsBoardArea, Shows}
+use Rattle.plane_set.specs.Families.{rule_in, class_at, IsRow, AreRows, HaveAllClasses, IsBoardRow, AreBoardRows}
+use Rattle.plane_set.specs.Standing.{PlaneTable, HasPlanes}
+use Rattle.plane_set.proofs.Places.{each_mapped, each_unmapped, get_mapped, all_from_each, each_from_all}
 
 all_unmapped : {X Y : Type 0} (P : Y → Type 0) (f : X → Y) (xs : List X) → All P (map f xs) → All (λ x. P (f x)) xs
 all_unmapped P f [] h = All-nil (λ x. P (f x))
@@ -40,20 +40,51 @@ module _ {R A : Type 0} (planes_of : R → List A) (draw : A → Drawing) (b : B
       All-weaker (λ (row : R). length (map draw (planes_of row)) ≡ length b.classes) (λ (row : R). length (planes_of row) ≡ length b.classes) (λ row e. sym (length-map (planes_of row) draw) ∙ e) rows
       (all_unmapped (λ (row : List Drawing). length row ≡ length b.classes) (λ (row : R). map draw (planes_of row)) rows h)
 
+  areas_drawn : (rows : List R) → AreBoardRows planes_of draw b rows → AreBoardRows (λ (row : List Drawing). row) (λ (d : Drawing). d) b (drawn rows)
+  areas_drawn rows h =
+      All-map (λ (row : List Drawing). IsBoardRow (λ (d : Drawing). d) b row) (λ (row : R). map draw (planes_of row)) rows
+      (All-weaker (λ (row : R). IsBoardRow draw b (planes_of row)) (λ (row : R). IsBoardRow (λ (d : Drawing). d) b (map draw (planes_of row))) (λ row k. All-map (λ (d : Drawing). IsBoardArea b d.region) draw (planes_of row) k) rows h)
+
+  pub areas_undrawn : (rows : List R) → AreBoardRows (λ (row : List Drawing). row) (λ (d : Drawing). d) b (drawn rows) → AreBoardRows planes_of draw b rows
+  areas_undrawn rows h =
+      All-weaker (λ (row : R). IsBoardRow (λ (d : Drawing). d) b (map draw (planes_of row))) (λ (row : R). IsBoardRow draw b (planes_of row)) (λ row k. all_unmapped (λ (d : Drawing). IsBoardArea b d.region) draw (planes_of row) k) rows
+      (all_unmapped (λ (row : List Drawing). IsBoardRow (λ (d : Drawing). d) b row) (λ (row : R). map draw (planes_of row)) rows h)
+
+  -- planes that show shapes have the points of the board
+  pub areas_shown : (f : Family) (shapes : List Shape) (rows : List R) → AreRows planes_of draw b f shapes rows → AreBoardRows planes_of draw b rows
+  areas_shown f shapes rows h =
+      all_from_each (λ (row : R). IsBoardRow draw b (planes_of row)) rows
+      (λ n row e. all_from_each (λ (plane : A). IsBoardArea b (draw plane).region) (planes_of row) (λ m plane k. (h n row e m plane k).region))
+
   pub drawn_length : (rows : List R) → length (drawn rows) ≡ length rows
   drawn_length rows = length-map rows (λ (row : R). map draw (planes_of row))
 
-  pub planes_drawn : (wires vias : List R) → length wires ≡ length b.layers → HaveAllClasses planes_of b wires → length vias ≡ length b.kinds → HaveAllClasses planes_of b vias → HasPlanes b (record { wires = drawn wires; vias = drawn vias })
-  planes_drawn wires vias l w k v = record {
+  pub planes_drawn : (wires vias : List R)
+      → length wires ≡ length b.layers → HaveAllClasses planes_of b wires → AreBoardRows planes_of draw b wires
+      → length vias ≡ length b.kinds → HaveAllClasses planes_of b vias → AreBoardRows planes_of draw b vias
+      → HasPlanes b (record { wires = drawn wires; vias = drawn vias })
+  planes_drawn wires vias l w wa k v va = record {
     layers = drawn_length wires ∙ l;
     wire_classes = classes_drawn wires w;
+    wire_areas = areas_drawn wires wa;
     kinds = drawn_length vias ∙ k;
     via_classes = classes_drawn vias v;
+    via_areas = areas_drawn vias va;
   }
 
 -- the plane at a place of rows that show some shapes
 pub shown_at : (b : BoardParts) (f : Family) (shapes : List Shape) (rows : List (List Drawing)) (n m : ℕ) (d : Drawing) → AreRows (λ (row : List Drawing). row) (λ (x : Drawing). x) b f shapes rows → n < length rows → slice_get (get_or rows n []) m ≡ Some d → Shows b (rule_in b f n (class_at m)) shapes d
 shown_at b f shapes rows n m d h l e = h n (get_or rows n []) (slice_get-get_or rows n [] l) m d e
+
+-- the plane of a class's wires on a layer has the points of the board
+module _ (b : BoardParts) (set : PlaneTable) (h : HasPlanes b set) (l : ℕ) (known : l < length b.layers) where
+  layer_in_set : l < length set.wires
+  layer_in_set = subst (λ (n : ℕ). l < n) (sym h.layers) known
+
+  pub wire_area : (c : ℕ) (d : Drawing) → slice_get (get_or set.wires l []) c ≡ Some d → IsBoardArea b d.region
+  wire_area c d e =
+      each_from_all (λ (x : Drawing). IsBoardArea b x.region) (get_or set.wires l [])
+      (All-get_or (λ (row : List Drawing). IsBoardRow (λ (x : Drawing). x) b row) set.wires l [] layer_in_set h.wire_areas) c d e
 
 -- the plane at a place, as contracts see it
 module _ {R A : Type 0} (planes_of : R → List A) (draw : A → Drawing) (rows : List R) (table : List (List Drawing)) (view : drawn_rows planes_of draw rows ≡ table) where

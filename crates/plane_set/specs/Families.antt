@@ -6,7 +6,7 @@ use Rattle.board_model.specs.declared.shapes.Shape.{Shape}
 use Rattle.board_model.specs.Labels.{PlaneRule, wire_plane, via_plane}
 use Rattle.plane_set.specs.declared.families.Family.{Family}
 use Rattle.plane_set.specs.declared.families.Family.TheVariants.{Wires, Vias}
-use Rattle.plane_set.specs.Drawings.{Drawing, Shows}
+use Rattle.plane_set.specs.Drawings.{Drawing, IsBoardArea, Shows}
 use Rattle.plane_set.specs.Places.{EachAt}
 
 -- the class of a number
@@ -34,3 +34,11 @@ AreRows {R} planes_of draw b f shapes rows = EachAt (λ n (row : R). IsRow draw 
 -- each row has one plane for each class
 abbrev pub HaveAllClasses : {R A : Type 0} → (R → List A) → BoardParts → List R → Type 0
 HaveAllClasses {R} planes_of b rows = All (λ (row : R). length (planes_of row) ≡ length b.classes) rows
+
+-- each plane of a row has the points of the board
+abbrev pub IsBoardRow : {A : Type 0} → (A → Drawing) → BoardParts → List A → Type 0
+IsBoardRow {A} draw b planes = All (λ (plane : A). IsBoardArea b (draw plane).region) planes
+
+-- each plane of each row has the points of the board
+abbrev pub AreBoardRows : {R A : Type 0} → (R → List A) → (A → Drawing) → BoardParts → List R → Type 0
+AreBoardRows {R} planes_of draw b rows = All (λ (row : R). IsBoardRow draw b (planes_of row)) rows

@@ -2,10 +2,11 @@ use Rattle.std.proofs.Common.{◌≡◌, ℕ, ◌+◌, ◌∷◌, ◌++◌, [], 
 use Rattle.std.proofs.lemmas.List.{length_push, map-id}
 use Rattle.std.proofs.lemmas.Iterator.Consumers.{YieldsList-end}
 use Rattle.std.proofs.lemmas.Iterator.Adapters.{YieldsList-from_vec}
-use Rattle.plane_set.specs.Drawings.{drawing_by, Shows}
-use Rattle.plane_set.specs.Families.{rule_in, class_at, IsRow}
+use Rattle.geo_rect.specs.declared.shapes.Rect.{Rect}
+use Rattle.plane_set.specs.Drawings.{drawing_by, IsBoardArea, Shows}
+use Rattle.plane_set.specs.Families.{rule_in, class_at, IsRow, IsBoardRow}
 use Rattle.plane_set.proofs.Adding.{shows_more}
-use Rattle.plane_set.proofs.Places.{each_more, length_both}
+use Rattle.plane_set.proofs.Places.{each_more, all_more, length_both}
 use Rattle.plane_set.proofs.adds.add_to_row.Goals as goal
 
 pub loop-plane-preserved : goal.loop-plane-preserved
@@ -22,10 +23,24 @@ loop-plane-preserved g c =
       is_finite = tt;
       class = ap (λ (n : ℕ). n + 1) m.class ∙ sym (length_push c.loop-plane.yielded c.in-Some.plane);
       added = length_both _ _ _ _ _ c.in_ok-push.ensures.items m.added;
+      areas = λ h. let P : List g.row.P.Denot → Type 0 = IsBoardRow draw b in
+          let IsArea : g.row.P.Denot → Type 0 = λ x. IsBoardArea b (draw x).region in
+          subst P (sym c.in_ok-push.ensures.items) (all_more IsArea IsArea c.loop-plane.yielded done c.in-Some.plane c.in_ok-add_to_plane.field-0 m.areas
+          (λ k. subst (λ (r : Rect). IsBoardArea b r) (sym c.in_ok-add_to_plane.ensures.region) k) h);
       shapes = λ shapes h. let P : List g.row.P.Denot → Type 0 = IsRow draw b f row (shapes ++ s ∷ []) in
           subst P (sym c.in_ok-push.ensures.items) (each_more (λ n x. Shows b (rule_in b f row (class_at n)) shapes (draw x)) (λ n x. Shows b (rule_in b f row (class_at n)) (shapes ++ s ∷ []) (draw x)) c.loop-plane.yielded done c.in-Some.plane c.in_ok-add_to_plane.field-0 c.loop-plane.class m.class m.added (m.shapes shapes)
           (shows_more b (rule_in b f row (class_at c.loop-plane.class)) shapes s (draw c.in-Some.plane) (draw c.in_ok-add_to_plane.field-0) c.in_ok-add_to_plane.ensures) h);
     }
+
+pub returns-clause-areas : goal.returns-clause-areas
+returns-clause-areas g c =
+    let draw = drawing_by g.P.Plane.region g.P.Plane.strips in
+    let gives = c.into_iter-plane-iterator.ensures.into_iter_gives in
+    let all = c.args.planes.items in
+    let end = YieldsList-end (YieldsList-from_vec {s = c.into_iter-plane-iterator.result} all gives.0 (gives.1 ∙ c.args.planes.ok.0)) c.loop-plane.yielded c.loop-plane.plane-iterator c.loop-plane.yielded_by c.next.result c.next.new.self c.in-None.is c.next.ensures.steps in
+    let whole : c.loop-plane.yielded ≡ all = sym (map-id c.loop-plane.yielded) ∙ end.0 in
+    λ h. let P : List g.row.P.Denot → Type 0 = IsBoardRow draw c.args.board.now.parts in
+    c.loop-plane.invariant.areas (subst P (sym whole) h)
 
 pub returns-clause-shapes : goal.returns-clause-shapes
 returns-clause-shapes g c =
