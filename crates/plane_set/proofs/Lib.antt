@@ -1,4 +1,5 @@
 pub mod Adding
+pub mod Admitting
 pub mod Barring
 pub mod Joining
 pub mod Places

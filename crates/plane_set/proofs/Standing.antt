@@ -7,9 +7,9 @@ use Rattle.std.proofs.lemmas.List.Elements.{All-nil, All-cons, All-head, All-tai
 use Rattle.board_model.specs.declared.parts.BoardParts.{BoardParts}
 use Rattle.board_model.specs.declared.shapes.Shape.{Shape}
 use Rattle.plane_set.specs.declared.families.Family.{Family}
-use Rattle.plane_set.specs.Drawings.{Drawing, drawn_rows, IsBoardPlane, Shows}
+use Rattle.plane_set.specs.Drawings.{Drawing, drawn_rows, IsBoardArea, IsBoardPlane, Shows}
 use Rattle.plane_set.specs.Families.{rule_in, class_at, IsRow, AreRows, AreBoardPlanes, AreBoardRows, HaveAllClasses}
-use Rattle.plane_set.specs.Standing.{HasPlanes}
+use Rattle.plane_set.specs.Standing.{PlaneTable, HasPlanes}
 use Rattle.plane_set.proofs.Places.{each_mapped, each_unmapped, get_mapped}
 
 all_unmapped : {X Y : Type 0} (P : Y → Type 0) (f : X → Y) (xs : List X) → All P (map f xs) → All (λ x. P (f x)) xs
@@ -71,6 +71,12 @@ module _ {R A : Type 0} (planes_of : R → List A) (draw : A → Drawing) (b : B
 -- the plane at a place of rows that show some shapes
 pub shown_at : (b : BoardParts) (f : Family) (shapes : List Shape) (rows : List (List Drawing)) (n m : ℕ) (d : Drawing) → AreRows (λ (row : List Drawing). row) (λ (x : Drawing). x) b f shapes rows → n < length rows → slice_get (get_or rows n []) m ≡ Some d → Shows b (rule_in b f n (class_at m)) shapes d
 shown_at b f shapes rows n m d h l e = h n (get_or rows n []) (slice_get-get_or rows n [] l) m d e
+
+-- the plane of a class's wires on a layer has the points of the board
+pub wire_area : (b : BoardParts) (set : PlaneTable) → HasPlanes b set → (l : ℕ) → l < length b.layers → (c : ℕ) (d : Drawing) → slice_get (get_or set.wires l []) c ≡ Some d → IsBoardArea b d.region
+wire_area b set h l known c d e =
+    let inside : l < length set.wires = subst (λ (n : ℕ). l < n) (sym h.layers) known in
+    (h.wire_planes l (get_or set.wires l []) (slice_get-get_or set.wires l [] inside) c d e).region
 
 -- the plane at a place, as contracts see it
 module _ {R A : Type 0} (planes_of : R → List A) (draw : A → Drawing) (rows : List R) (table : List (List Drawing)) (view : drawn_rows planes_of draw rows ≡ table) where

@@ -9,6 +9,7 @@ mod builds;
 mod families;
 mod frames;
 mod joins;
+mod passing;
 mod sets;
 #[cfg(test)]
 mod tests;

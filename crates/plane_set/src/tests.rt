@@ -1,42 +1,72 @@
-ghost use Rattle.std.specs.Prelude.{◌≡◌, ◌<◌, length, IfOk};
+ghost use Rattle.std.specs.Prelude.{IsTrue};
+ghost use Rattle.geo_rect.specs.Plane.{HasPoint};
+ghost use Rattle.board_model.specs.Known.{IsKnown, IsNearOrigin};
 ghost use Rattle.plane_set.specs.Standing.{HasPlanes};
 
 use crate::PlaneSet;
 use board_model::{Block, Board, BoardParts, Pin, Rule, Shape, ViaKind};
 use flat_plane::FlatPlane;
-use geo_rect::{ClassId, KindId, Label, LayerId, List, NetId, NoMemory, Rect, Text};
-use plane_core::{Plane, Strip};
+use geo_rect::{ClassId, KindId, Label, LayerId, List, NetId, NoMemory, Point, Rect, Text};
+use plane_core::{Plane, Strips};
 use std::alloc::Global;
 use std::process::Abort;
 use std::test::Fail;
 
-type Row = (Label, i32, i32, i32, i32);
-
 const ONE: Label = Label::One(NetId(0));
 
-fn name(alloc: Global, text: &str) -> Result<List<Text>, NoMemory> {
+fn names(alloc: Global, texts: &[&str]) -> Result<List<Text>, NoMemory> {
     let mut list = List::new(alloc);
-    list.push(Text::from_str(alloc, text)?)?;
+    for text in texts {
+        list.push(Text::from_str(alloc, text)?)?;
+    }
     Ok(list)
 }
 
-/// A board of this size with one layer, one class and one net, on which nothing stands.
-fn bare_board(alloc: Global, width: i32, height: i32) -> Result<BoardParts, NoMemory> {
+/// A kind of via from the first layer to the second.
+fn kind() -> ViaKind {
+    ViaKind {
+        first: LayerId(0),
+        last: LayerId(1),
+        charge: 5,
+    }
+}
+
+/// A board of two layers, one kind of via over both, one class and one net.
+fn parts_of(
+    alloc: Global,
+    width: i32,
+    height: i32,
+    blocks: &[Block],
+    pins: &[Pin],
+) -> Result<BoardParts, NoMemory> {
+    let rule = Rule { half: 1, gap: 2 };
     Ok(BoardParts {
         name: Text::from_str(alloc, "small")?,
         width,
         height,
-        layers: name(alloc, "top")?,
-        classes: name(alloc, "thin")?,
-        rules: List::from_slice(alloc, &[Rule { half: 1, gap: 2 }])?,
-        kind_names: List::new(alloc),
-        kinds: List::new(alloc),
-        pads: List::new(alloc),
-        blocks: List::new(alloc),
-        net_names: name(alloc, "a")?,
+        layers: names(alloc, &["top", "bottom"])?,
+        classes: names(alloc, &["thin"])?,
+        rules: List::from_slice(alloc, &[rule, rule])?,
+        kind_names: names(alloc, &["hole"])?,
+        kinds: List::from_slice(alloc, &[kind()])?,
+        pads: List::from_slice(alloc, &[2])?,
+        blocks: List::from_slice(alloc, blocks)?,
+        net_names: names(alloc, &["a"])?,
         net_classes: List::from_slice(alloc, &[ClassId(0)])?,
-        pins: List::new(alloc),
+        pins: List::from_slice(alloc, pins)?,
     })
+}
+
+fn board_of(rt: &impl Abort, alloc: Global, parts: BoardParts) -> Result<Board, NoMemory> {
+    assert!(rt; parts.is_board());
+    Board::build(alloc, parts)
+}
+
+fn block(area: Rect) -> Block {
+    Block {
+        layer: LayerId(0),
+        area,
+    }
 }
 
 fn pin(area: Rect, layer: u32) -> Pin {
@@ -48,204 +78,145 @@ fn pin(area: Rect, layer: u32) -> Pin {
     }
 }
 
-/// The bare board with a wall and two pins.
-fn add_wall(alloc: Global, parts: &mut BoardParts) -> Result<(), NoMemory> {
-    let wall = Block {
-        layer: LayerId(0),
-        area: Rect::new(18, 0, 22, 14),
-    };
-    let left = pin(Rect::new(4, 9, 6, 11), 0);
-    let right = pin(Rect::new(34, 9, 36, 11), 0);
-    parts.blocks = List::from_slice(alloc, &[wall])?;
-    parts.pins = List::from_slice(alloc, &[left, right])?;
-    Ok(())
+fn wall() -> Rect {
+    Rect::new(18, 0, 22, 14)
 }
 
-/// The bare board with a second layer, a kind of via, and a pin on the second layer alone.
-fn add_layer(alloc: Global, parts: &mut BoardParts) -> Result<(), NoMemory> {
-    let rule = Rule { half: 1, gap: 2 };
-    let kind = ViaKind {
-        first: LayerId(0),
-        last: LayerId(1),
-        charge: 5,
-    };
-    parts.layers.push(Text::from_str(alloc, "bottom")?)?;
-    parts.rules = List::from_slice(alloc, &[rule, rule])?;
-    parts.kind_names = name(alloc, "small")?;
-    parts.kinds = List::from_slice(alloc, &[kind])?;
-    parts.pads = List::from_slice(alloc, &[2])?;
-    parts.pins = List::from_slice(alloc, &[pin(Rect::new(10, 5, 10, 5), 1)])?;
-    Ok(())
+fn left() -> Rect {
+    Rect::new(4, 9, 6, 11)
 }
 
-fn board_of(rt: &impl Abort, alloc: Global, parts: BoardParts) -> Result<Board, NoMemory> {
-    assert!(rt; parts.is_board());
-    Board::build(alloc, parts)
+fn right() -> Rect {
+    Rect::new(34, 9, 36, 11)
 }
 
-fn strip(rt: &impl Abort, row: Row) -> Strip {
-    let (label, x0, y0, x1, y1) = row;
-    assert!(rt; x0 <= x1);
-    assert!(rt; y0 <= y1);
-    Strip {
-        area: Rect::new(x0, y0, x1, y1),
-        label,
+/// A shape on the first layer, of the first net or of none.
+fn shape_of(rt: &impl Abort, board: &Board, area: Rect, is_owned: bool) -> Shape
+    ensures { IsKnown board.now.parts result }
+{
+    assert!(rt; board.layers() > 0);
+    assert!(rt; board.nets() > 0);
+    assert!(rt; is_small(area));
+    let layer = LayerId(0);
+    if is_owned {
+        let owner = Some(NetId(0));
+        return Shape { area, layer, owner };
     }
+    let owner = None;
+    Shape { area, layer, owner }
 }
 
-fn expect_strips<P: Plane>(
-    rt: &impl Abort,
-    alloc: Global,
-    plane: &P,
-    rows: &[Row],
-) -> Result<(), NoMemory> {
-    let mut expected = List::new(alloc);
-    for row in rows {
-        expected.push(strip(rt, *row))?;
+fn is_small(area: Rect) -> bool
+    ensures { IsTrue result → IsNearOrigin area }
+{
+    if area.x0 < 0 {
+        return false;
     }
-    let domain = plane.domain();
-    let found = plane.strips_in(alloc, domain)?;
-    assert_eq!(rt; found.as_slice(), expected.as_slice());
-    Ok(())
+    if area.y0 < 0 {
+        return false;
+    }
+    if area.x1 > 100 {
+        return false;
+    }
+    area.y1 <= 100
 }
 
-fn expect_wire(
+fn has_point(r: Rect, p: Point) -> bool
+    ensures { IsTrue result → HasPoint r p }
+{
+    if p.x < r.x0 {
+        return false;
+    }
+    if p.x > r.x1 {
+        return false;
+    }
+    if p.y < r.y0 {
+        return false;
+    }
+    p.y <= r.y1
+}
+
+/// The strips of the plane of wires on the first layer.
+fn wire_strips<P: Plane>(
     rt: &impl Abort,
     alloc: Global,
     board: &Board,
-    set: &PlaneSet<FlatPlane>,
-    rows: &[Row],
-) -> Result<(), NoMemory>
+    set: &PlaneSet<P>,
+) -> Result<Strips, NoMemory>
     requires { HasPlanes board.now.parts set.now }
 {
     assert!(rt; board.layers() > 0);
     assert!(rt; board.classes() > 0);
-    expect_strips(rt, alloc, set.wire(LayerId(0), ClassId(0)), rows)
+    let plane = set.wire(LayerId(0), ClassId(0));
+    let domain = plane.domain();
+    plane.strips_in(alloc, domain)
 }
 
-fn expect_via(
+/// The planes of the board that has the wall and the pins.
+fn built_strips<P: Plane>(rt: &impl Abort, alloc: Global) -> Result<Strips, NoMemory> {
+    let pins = [pin(left(), 0), pin(right(), 0)];
+    let parts = parts_of(alloc, 40, 20, &[block(wall())], &pins)?;
+    let board = board_of(rt, alloc, parts)?;
+    let set: PlaneSet<P> = PlaneSet::build(alloc, &board)?;
+    wire_strips(rt, alloc, &board, &set)
+}
+
+/// The planes of the bare board with the pins and the wall, one by one in another order.
+fn added_strips<P: Plane>(rt: &impl Abort, alloc: Global) -> Result<Strips, NoMemory> {
+    let parts = parts_of(alloc, 40, 20, &[], &[])?;
+    let board = board_of(rt, alloc, parts)?;
+    let set: PlaneSet<P> = PlaneSet::build(alloc, &board)?;
+    let set = set.add(alloc, &board, &shape_of(rt, &board, right(), true))?;
+    let set = set.add(alloc, &board, &shape_of(rt, &board, wall(), false))?;
+    let set = set.add(alloc, &board, &shape_of(rt, &board, left(), true))?;
+    wire_strips(rt, alloc, &board, &set)
+}
+
+#[test]
+fn the_order_of_the_shapes_does_not_matter(rt: HostRuntime) -> Result<(), Fail> {
+    let built = built_strips::<FlatPlane>(&rt, rt.alloc())?;
+    let added = added_strips::<FlatPlane>(&rt, rt.alloc())?;
+    assert_eq!(rt; built.len(), 16);
+    assert_eq!(rt; added.as_slice(), built.as_slice());
+    Ok(())
+}
+
+fn label_at<P: Plane>(rt: &impl Abort, plane: &P, at: Point) -> Label {
+    assert!(rt; has_point(plane.domain(), at));
+    plane.strip_at(at).label
+}
+
+fn expect_vias<P: Plane>(
     rt: &impl Abort,
     alloc: Global,
     board: &Board,
-    set: &PlaneSet<FlatPlane>,
-    rows: &[Row],
+    set: &PlaneSet<P>,
 ) -> Result<(), NoMemory>
     requires { HasPlanes board.now.parts set.now }
 {
     assert!(rt; board.kinds() > 0);
     assert!(rt; board.classes() > 0);
-    expect_strips(rt, alloc, set.via(KindId(0), ClassId(0)), rows)
-}
-
-/// The wall and the pins, of which each is added to the planes of the bare board.
-fn add_shapes(
-    alloc: Global,
-    board: &Board,
-    set: PlaneSet<FlatPlane>,
-) -> Result<PlaneSet<FlatPlane>, NoMemory>
-    requires planes { HasPlanes board.now.parts set }
-    requires layers { 0 < length board.now.parts.layers }
-    requires nets { 0 < length board.now.parts.net_names }
-    ensures { IfOk result (λ new. HasPlanes board.now.parts new) }
-{
-    let set = set.add(
-        alloc,
-        board,
-        &shape(Rect::new(34, 9, 36, 11), Some(NetId(0))),
-    )?;
-    let set = set.add(alloc, board, &shape(Rect::new(18, 0, 22, 14), None))?;
-    set.add(alloc, board, &shape(Rect::new(4, 9, 6, 11), Some(NetId(0))))
-}
-
-fn shape(area: Rect, owner: Option<NetId>) -> Shape
-    ensures area { result.area ≡ area }
-    ensures layer { result.layer.0 ≡ 0 }
-    ensures owner { result.owner ≡ owner }
-{
-    Shape {
-        area,
-        layer: LayerId(0),
-        owner,
+    let plane = set.via(KindId(0), ClassId(0));
+    let domain = plane.domain();
+    assert_eq!(rt; plane.strips_in(alloc, domain)?.len(), 7);
+    for (x, label) in [(10, ONE), (14, Label::Free), (15, Label::Many)] {
+        assert_eq!(rt; label_at(rt, plane, Point { x, y: 5 }), label, "at {x}");
     }
-}
-
-/// What the planes of the board with the wall and the pins are, by hand.
-fn expect_wall(
-    rt: &impl Abort,
-    alloc: Global,
-    board: &Board,
-    set: &PlaneSet<FlatPlane>,
-) -> Result<(), NoMemory>
-    requires { HasPlanes board.now.parts set.now }
-{
-    let rows = [
-        (Label::Many, 0, 0, 40, 0),
-        (Label::Many, 0, 1, 0, 19),
-        (Label::Free, 1, 1, 15, 6),
-        (Label::Many, 16, 1, 24, 16),
-        (Label::Free, 25, 1, 39, 6),
-        (Label::Many, 40, 1, 40, 19),
-        (Label::Free, 1, 7, 1, 13),
-        (ONE, 2, 7, 8, 13),
-        (Label::Free, 9, 7, 15, 13),
-        (Label::Free, 25, 7, 31, 13),
-        (ONE, 32, 7, 38, 13),
-        (Label::Free, 39, 7, 39, 13),
-        (Label::Free, 1, 14, 15, 16),
-        (Label::Free, 25, 14, 39, 16),
-        (Label::Free, 1, 17, 39, 19),
-        (Label::Many, 0, 20, 40, 20),
-    ];
-    expect_wire(rt, alloc, board, set, &rows)
-}
-
-#[test]
-fn a_wall_and_two_pins(rt: HostRuntime) -> Result<(), Fail> {
-    let alloc = rt.alloc();
-    let mut parts = bare_board(alloc, 40, 20)?;
-    add_wall(alloc, &mut parts)?;
-    let board = board_of(&rt, alloc, parts)?;
-    let set = PlaneSet::build(alloc, &board)?;
-    expect_wall(&rt, alloc, &board, &set)?;
     Ok(())
 }
 
-#[test]
-fn the_same_shapes_one_by_one(rt: HostRuntime) -> Result<(), Fail> {
-    let alloc = rt.alloc();
-    let board = board_of(&rt, alloc, bare_board(alloc, 40, 20)?)?;
-    let bare = PlaneSet::build(alloc, &board)?;
-    assert!(rt; board.layers() > 0);
-    assert!(rt; board.nets() > 0);
-    let set = add_shapes(alloc, &board, bare)?;
-    expect_wall(&rt, alloc, &board, &set)?;
-    Ok(())
+/// A pin on the second layer alone, and a blockage on the first.
+fn check_vias<P: Plane>(rt: &impl Abort, alloc: Global) -> Result<(), NoMemory> {
+    let blocks = [block(Rect::new(18, 0, 20, 10))];
+    let pins = [pin(Rect::new(10, 5, 10, 5), 1)];
+    let parts = parts_of(alloc, 20, 10, &blocks, &pins)?;
+    let board = board_of(rt, alloc, parts)?;
+    let set: PlaneSet<P> = PlaneSet::build(alloc, &board)?;
+    expect_vias(rt, alloc, &board, &set)
 }
 
 #[test]
 fn vias_keep_off_both_layers(rt: HostRuntime) -> Result<(), Fail> {
-    let alloc = rt.alloc();
-    let mut parts = bare_board(alloc, 20, 10)?;
-    add_layer(alloc, &mut parts)?;
-    let board = board_of(&rt, alloc, parts)?;
-    let set = PlaneSet::build(alloc, &board)?;
-    let wires = [
-        (Label::Many, 0, 0, 20, 0),
-        (Label::Many, 0, 1, 0, 9),
-        (Label::Free, 1, 1, 19, 9),
-        (Label::Many, 20, 1, 20, 9),
-        (Label::Many, 0, 10, 20, 10),
-    ];
-    expect_wire(&rt, alloc, &board, &set, &wires)?;
-    let vias = [
-        (Label::Many, 0, 0, 20, 1),
-        (Label::Many, 0, 2, 1, 8),
-        (Label::Free, 2, 2, 6, 8),
-        (ONE, 7, 2, 13, 8),
-        (Label::Free, 14, 2, 18, 8),
-        (Label::Many, 19, 2, 20, 8),
-        (Label::Many, 0, 9, 20, 10),
-    ];
-    expect_via(&rt, alloc, &board, &set, &vias)?;
+    check_vias::<FlatPlane>(&rt, rt.alloc())?;
     Ok(())
 }
