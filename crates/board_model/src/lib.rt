@@ -31,7 +31,7 @@ pub use limits::{
     MAX_BLOCKS, MAX_CHARGE, MAX_CLASSES, MAX_COMMANDS, MAX_KINDS, MAX_LAYERS, MAX_MEASURE,
     MAX_NAME, MAX_NETS, MAX_PINS, MAX_SIDE,
 };
-pub use made::{Conn, Leg, Made};
+pub use made::{Conn, Leg, Made, copy_conns};
 pub use parts::{Block, BoardParts, Pin, Rule, ViaKind};
 pub use shapes::{Owned, Shape, Violation};
 pub use states::all_shapes;
