@@ -6,4 +6,5 @@ pub mod LabelTests
 pub mod Layers
 pub mod NameLists
 pub mod NameTables
+pub mod Squares
 pub mod StateShapes

@@ -5,6 +5,7 @@
 mod accessors;
 mod boards;
 mod commands;
+mod conn_shapes;
 mod gaps;
 mod labels;
 mod limits;
@@ -15,6 +16,7 @@ mod net_pins;
 mod outlines;
 mod parts;
 mod rules;
+mod segments;
 mod shapes;
 mod states;
 #[cfg(test)]
@@ -23,6 +25,7 @@ mod validity;
 
 pub use boards::Board;
 pub use commands::Command;
+pub use conn_shapes::shapes_of;
 pub use labels::{
     hits_are_squares_too_close, labels_forget_shapes, labels_ignore_order, labels_say_what_hits,
     labels_take_shapes, passable_is_left_to_the_net,
