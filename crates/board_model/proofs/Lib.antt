@@ -4,6 +4,7 @@ pub mod LabelHits
 pub mod LabelLaws
 pub mod LabelTests
 pub mod Layers
+pub mod MadeShapes
 pub mod NameLists
 pub mod NameTables
 pub mod Squares

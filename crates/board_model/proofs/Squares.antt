@@ -20,7 +20,7 @@ segment_of p q h r a b x x' y y' g k e f i l m n o s t =
 stretch-around : (v h : ℤ) → stretch v v h ≡ around v h
 stretch-around v h = same_interval (stretch v v h) (around v h) (omega (arith, ints, clamps)) (omega (arith, ints, clamps))
 
-segment-square : (p : Point) (h : ℤ) → segment p p h ≡ square p h
+pub segment-square : (p : Point) (h : ℤ) → segment p p h ≡ square p h
 segment-square p h =
     ap (λ (i : Interval). rect_of i (stretch p.y p.y h)) (stretch-around p.x h) ∙ ap (rect_of (around p.x h)) (stretch-around p.y h)
 
