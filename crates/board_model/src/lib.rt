@@ -4,6 +4,7 @@
 
 mod accessors;
 mod boards;
+mod boxes;
 mod commands;
 mod conn_shapes;
 mod gaps;
@@ -24,6 +25,7 @@ mod tests;
 mod validity;
 
 pub use boards::Board;
+pub use boxes::{attach_boxes, target_boxes};
 pub use commands::Command;
 pub use conn_shapes::shapes_of;
 pub use labels::{
