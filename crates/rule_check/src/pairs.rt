@@ -2,8 +2,7 @@
 
 ghost use Rattle.std.specs.Prelude.{◌≡◌, ◌++◌, All, OnOk};
 ghost use Rattle.board_model.specs.Known.{IsKnown};
-ghost use Rattle.geo_rect.specs.Tests.{are_too_close};
-ghost use Rattle.board_model.specs.Spacing.{gap_between, is_same_owner, breaks_gap};
+ghost use Rattle.board_model.specs.Spacing.{is_same_owner, breaks_gap};
 ghost use Rattle.board_model.specs.Violations.{close_of};
 
 use board_model::{Board, Owned, Shape, Violation};
@@ -20,17 +19,6 @@ fn same_owner(a: Option<NetId>, b: Option<NetId>) -> bool
     }
 }
 
-/// Whether the areas of two shapes are too close for the gap of their owners.
-fn areas_too_close(board: &Board, s: Shape, t: Shape) -> bool
-    requires first { IsKnown board.now.parts s }
-    requires second { IsKnown board.now.parts t }
-    ensures { result
-        ≡ are_too_close s.area t.area (gap_between board.now.parts s.layer s.owner t.owner) }
-{
-    let gap = board.gap_between(s.layer, s.owner, t.owner);
-    too_close(s.area, t.area, gap)
-}
-
 /// Whether two shapes stand on one layer, belong to two owners, and are too close for the gap of
 /// these.
 fn breaks_gap(board: &Board, s: Shape, t: Shape) -> bool
@@ -44,7 +32,7 @@ fn breaks_gap(board: &Board, s: Shape, t: Shape) -> bool
     if same_owner(s.owner, t.owner) {
         return false;
     }
-    areas_too_close(board, s, t)
+    too_close(s.area, t.area, board.gap_between(s.layer, s.owner, t.owner))
 }
 
 /// Adds the violation of the shape with each later one that it is too close to.
