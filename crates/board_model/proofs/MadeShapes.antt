@@ -97,10 +97,6 @@ module _ (b : BoardParts) (h : IsBoard b) where
   pub state_known : (lists : List (List Conn)) → length lists ≡ length b.net_names → AreWellFormed b lists → All (IsKnown b) (state_shapes b lists)
   state_known lists e w = All-append (IsKnown b) (board_shapes b) (made_shapes b 0 lists) (board_known b h) (made_known 0 lists (omega arith) w)
 
--- empty lists are well formed
-pub none_well_formed : (b : BoardParts) (lists : List (List Conn)) → All (λ conns. conns ≡ []) lists → AreWellFormed b lists
-none_well_formed b lists h = All-weaker (λ conns. conns ≡ []) (All (IsWellFormed b)) (λ conns e. subst (All (IsWellFormed b)) (sym e) (All-nil (IsWellFormed b))) lists h
-
 -- where no nets are left, nothing is left to add
 pub made_all : (b : BoardParts) (lists : List (List Conn)) (n : ℕ) (xs zs : List Shape) → length lists ≤ n → xs ++ made_shapes b n (drop n lists) ≡ zs → xs ≡ zs
 made_all b lists n xs zs l e = sym (append-nil xs) ∙ ap (λ ls. xs ++ made_shapes b n ls) (sym (drop_all n lists l)) ∙ e
