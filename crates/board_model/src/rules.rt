@@ -6,13 +6,13 @@ ghost use Rattle.board_model.specs.Rules.{IsWordByte, IsName, IsSide, IsMeasure,
 use crate::limits::{MAX_CHARGE, MAX_MEASURE, MAX_NAME, MAX_SIDE};
 use crate::parts::{Block, BoardParts, Pin, Rule, ViaKind};
 
-fn is_word_byte(byte: u8) -> bool
-    ensures { IsTrue result ↔ IsWordByte byte }
+fn is_word_byte(byte: &u8) -> bool
+    ensures { IsTrue result ↔ IsWordByte byte.now }
 {
-    if byte < 33 {
+    if *byte < 33 {
         return false;
     }
-    if byte > 126 {
+    if *byte > 126 {
         return false;
     }
     true
@@ -21,7 +21,7 @@ fn is_word_byte(byte: u8) -> bool
 fn is_word(bytes: &[u8]) -> bool
     ensures { IsTrue result ↔ All IsWordByte bytes.now }
 {
-    bytes.iter().all(|byte| is_word_byte(*byte))
+    bytes.iter().all(is_word_byte)
 }
 
 pub fn is_name(bytes: &[u8]) -> bool
@@ -48,25 +48,25 @@ pub fn is_side(measure: i32) -> bool
     true
 }
 
-pub fn is_measure(measure: i32) -> bool
-    ensures { IsTrue result ↔ IsMeasure measure }
+pub fn is_measure(measure: &i32) -> bool
+    ensures { IsTrue result ↔ IsMeasure measure.now }
 {
-    if measure < 1 {
+    if *measure < 1 {
         return false;
     }
-    if measure > MAX_MEASURE {
+    if *measure > MAX_MEASURE {
         return false;
     }
     true
 }
 
-pub fn is_rule(rule: Rule) -> bool
-    ensures { IsTrue result ↔ IsRule rule }
+pub fn is_rule(rule: &Rule) -> bool
+    ensures { IsTrue result ↔ IsRule rule.now }
 {
-    if !is_measure(rule.half) {
+    if !is_measure(&rule.half) {
         return false;
     }
-    is_measure(rule.gap)
+    is_measure(&rule.gap)
 }
 
 pub fn is_kind(layers: usize, kind: ViaKind) -> bool

@@ -71,8 +71,7 @@ fn has_rules(parts: &BoardParts) -> bool
     if parts.rules.len() != parts.layers.len() * parts.classes.len() {
         return false;
     }
-    let rules = parts.rules.as_slice();
-    rules.iter().all(|rule| is_rule(*rule))
+    parts.rules.as_slice().iter().all(is_rule)
 }
 
 fn are_kinds(layers: usize, kinds: &[ViaKind]) -> bool
@@ -97,8 +96,7 @@ fn has_kinds(parts: &BoardParts) -> bool
     if parts.pads.len() != parts.kinds.len() * parts.classes.len() {
         return false;
     }
-    let pads = parts.pads.as_slice();
-    pads.iter().all(|pad| is_measure(*pad))
+    parts.pads.as_slice().iter().all(is_measure)
 }
 
 fn has_nets(parts: &BoardParts) -> bool
