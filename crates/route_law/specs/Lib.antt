@@ -1,0 +1,5 @@
+pub mod Covers
+pub mod Ground
+pub mod Moves
+pub mod Right
+pub mod Walks
