@@ -1,0 +1,6 @@
+pub mod Bounds
+pub mod Doors
+pub mod Ends
+pub mod Law
+pub mod Passed
+pub mod StepBounds
