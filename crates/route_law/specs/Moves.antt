@@ -28,7 +28,8 @@ pub record IsMeetOfThree (a b c r : Rect) : Type 0 where
   pub of_two : IsMeet a b shared
   pub of_all : IsMeet shared c r
 
--- moved is the front clamped into the door, which is this way off
+-- what becomes of a front that leaves its strip by a door, some points of the strip or next to it: the
+-- front is clamped into the door, which is this way off
 pub record IsMovedFront (front door moved : Rect) (way : ℕ) : Type 0 where
   pub clamped : IsClamped front door moved
   pub distance : IsDistance front door way

@@ -31,7 +31,7 @@ pub record IsFromSource (g : Ground) (sources : List Spot) (n : ℕ) (a : Arriva
   pub numbered : slice_get sources n ≡ Some box
   pub start : IsStart g box a
 
--- the entry of this number, which is less than limit, has the property
+-- the entry of number n, which comes before the one of number limit, has the property
 pub record IsFromEntry (entries : List Entry) (limit n : ℕ) (Holds : Arrival → Type 0) : Type 0 where
   pub entry : Entry
   pub earlier : n < limit
