@@ -1,3 +1,5 @@
+pub mod Attained
+pub mod Before
 pub mod Bounds
 pub mod Doors
 pub mod Ends
@@ -5,4 +7,5 @@ pub mod Joining
 pub mod Law
 pub mod Passed
 pub mod StepBounds
+pub mod Ways
 pub mod Wires
