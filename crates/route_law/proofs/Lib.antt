@@ -1,6 +1,8 @@
 pub mod Attained
 pub mod Before
+pub mod Beside
 pub mod Bounds
+pub mod Determined
 pub mod Doors
 pub mod Ends
 pub mod Joining
