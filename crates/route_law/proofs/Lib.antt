@@ -7,6 +7,7 @@ pub mod Doors
 pub mod Ends
 pub mod Joining
 pub mod Law
+pub mod OnBoards
 pub mod Passed
 pub mod StepBounds
 pub mod Ways

@@ -4,11 +4,13 @@
 //! All coordinates are whole micrometres, and a cost is counted in micrometres of wire.
 #![tactic(auto)]
 
+mod boards;
 mod certs;
 mod laws;
 mod moves;
 mod walks;
 
+pub use boards::a_ground_is_passable_where_its_board_is;
 pub use certs::{Cert, Entry, Origin};
 pub use laws::{
     a_right_certificate_bounds_every_walk, the_bound_of_a_right_certificate_is_reached,
