@@ -1,3 +1,6 @@
+pub mod Departures
+pub mod Gains
 pub mod Grounds
 pub mod Listed
 pub mod Order
+pub mod Ways

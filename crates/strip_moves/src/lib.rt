@@ -4,6 +4,10 @@
 //! All coordinates are whole micrometres, and a cost is counted in micrometres of wire.
 #![tactic(auto)]
 
+mod departures;
+mod edges;
+mod jumps;
+mod labels;
 mod laws;
 mod moves;
 mod starts;
