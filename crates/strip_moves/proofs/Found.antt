@@ -4,7 +4,7 @@ use Rattle.std.specs.Prelude.{Contains}
 use Rattle.geo_rect.specs.declared.ids.NetId.{NetId}
 use Rattle.geo_rect.specs.declared.shapes.Point.{Point}
 use Rattle.geo_rect.specs.declared.shapes.Rect.{Rect}
-use Rattle.geo_rect.specs.Plane.{HasPoint}
+use Rattle.geo_rect.specs.Plane.{HasPoint, IsMeet, ShareNoPoint}
 use Rattle.board_model.specs.Labels.{Admits}
 use Rattle.plane_core.specs.declared.sides.Side.{Side}
 use Rattle.plane_core.specs.declared.strips.Strip.{Strip}
@@ -15,7 +15,7 @@ use Rattle.route_law.specs.Moves.{Arrival}
 use Rattle.strip_moves.specs.declared.departures.Departure.{Departure}
 use Rattle.strip_moves.specs.Gains.{IsFromOneOf}
 use Rattle.strip_moves.specs.Ways.{IsOverEdge, IsStepInto, IsStepOnSide, IsWithin, IsJumpInto, IsJumpWithin, IsJumpThrough, IsJump}
-use Rattle.strip_moves.proofs.Ways.{first_point, has_first}
+use Rattle.strip_moves.proofs.Ways.{first_point, has_first, same_meet}
 
 module _ (strips found : List Strip) (d : Departure) where
   passable_found : (s : Strip) (area : Rect) → Contains strips s → Admits s.label d.net → area ≡ s.area → IsPassableStrip strips d.net area
@@ -64,6 +64,21 @@ module _ (strips found : List Strip) (d : Departure) where
           listed = choice.complete s h.passable.listed (record { at = p; in_first = w.is_common.second p k; in_second = w.is_common.first p k });
           from = record { admits = h.passable.admits; within = w };
         }
+
+-- the part is what the via strip has of the old one
+module _ (strips : List Strip) (d : Departure) (w : Strip) (admits : Admits w.label d.net) (part : Rect) (is_part : IsMeet d.from.strip w.area part) where
+  pub through_of : (a : Arrival) → IsJumpWithin strips d part a → IsJumpThrough strips d w a
+  through_of a h = record { admits = admits; part = part; is_part = is_part; jump = h }
+
+  pub of_through : (a : Arrival) → IsJumpThrough strips d w a → IsJumpWithin strips d part a
+  of_through a h = subst (λ (r : Rect). IsJumpWithin strips d r a) (same_meet d.from.strip w.area h.part part h.is_part is_part) h.jump
+
+-- a part with no point of the via strip lets nothing through
+pub through_none : (strips : List Strip) (d : Departure) (w : Strip) (a : Arrival) → ShareNoPoint d.from.strip w.area → IsJumpThrough strips d w a → ⊥
+through_none strips d w a n h =
+    let p = first_point h.part in
+    let k = has_first h.part in
+    n p (h.is_part.first p k) (h.is_part.second p k)
 
 module _ (vias strips found : List Strip) (d : Departure) (choice : IsChoice vias (λ s. Meets s.area d.from.strip) found) where
   pub via_of : (a : Arrival) → IsFromOneOf found (IsJumpThrough strips d) a → IsJump vias strips d a

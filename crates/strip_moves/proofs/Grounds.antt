@@ -62,6 +62,13 @@ area_same b r board a =
     (same_interval (columns r) (upto b.width) a.left (a.right ∙ side_whole b.width board.width))
     (same_interval (rows r) (upto b.height) a.below (a.above ∙ side_whole b.height board.height))
 
+-- the plane at a place is one of the board
+pub wire_board : (b : BoardParts) (set : PlaneTable) → HasPlanes b set → (n m : ℕ) (d : Drawing) → n < length b.layers → slice_get (get_or set.wires n []) m ≡ Some d → IsBoardPlane b d
+wire_board b set h n m d l e = let size = h.layers in h.wire_planes n (get_or set.wires n []) (slice_get-get_or set.wires n [] (omega arith)) m d e
+
+pub via_board : (b : BoardParts) (set : PlaneTable) → HasPlanes b set → (n m : ℕ) (d : Drawing) → n < length b.kinds → slice_get (get_or set.vias n []) m ≡ Some d → IsBoardPlane b d
+via_board b set h n m d l e = let size = h.kinds in h.via_planes n (get_or set.vias n []) (slice_get-get_or set.vias n [] (omega arith)) m d e
+
 module _ (b : BoardParts) (board : IsBoard b) where
   plane_at : (rows : List (List Drawing)) (n : ℕ) (c : ClassId) → IsPlaneAt b rows n c → IsPlane (board_area b) (strips_at rows n c)
   plane_at rows n c h =

@@ -18,9 +18,16 @@ made l t f c = record { layer = l; strip = t; front = f; cost = c }
 same_made : (l m : LayerId) (t u f g : Rect) (c d : ℕ) → l ≡ m → t ≡ u → f ≡ g → c ≡ d → made l t f c ≡ made m u g d
 same_made l m t u f g c d el et ef ec = cc
 
-same_arrival : (a b : Arrival) → a.layer ≡ b.layer → a.strip ≡ b.strip → a.front ≡ b.front → a.cost ≡ b.cost → a ≡ b
+pub same_arrival : (a b : Arrival) → a.layer ≡ b.layer → a.strip ≡ b.strip → a.front ≡ b.front → a.cost ≡ b.cost → a ≡ b
 unfolding made
 same_arrival a b el et ef ec = same_made a.layer b.layer a.strip b.strip a.front b.front a.cost b.cost el et ef ec
+
+-- what two rectangles have in common is one rectangle
+pub same_meet : (a b x y : Rect) → IsMeet a b x → IsMeet a b y → x ≡ y
+same_meet a b x y m n =
+    same_points x y
+    (λ p k. n.all p (m.first p k) (m.second p k))
+    (λ p k. m.all p (n.first p k) (n.second p k))
 
 module _ (d : Departure) (u : Rect) where
   pub one_through : (door : Rect) (a b : Arrival) → IsThroughDoor d u door a → IsThroughDoor d u door b → a ≡ b
@@ -43,12 +50,7 @@ module _ (d : Departure) (u : Rect) where
       h.through
 
   pub within_this : (part common : Rect) (a : Arrival) → IsMeet part u common → IsWithin d part u a → IsThroughDoor d u common a
-  within_this part common a m h =
-      door_same h.common common a
-      (same_points h.common common
-      (λ p k. m.all p (h.is_common.first p k) (h.is_common.second p k))
-      (λ p k. h.is_common.all p (m.first p k) (m.second p k)))
-      h.through
+  within_this part common a m h = door_same h.common common a (same_meet part u h.common common h.is_common m) h.through
 
 -- the lower left point of a rectangle
 abbrev pub first_point : Rect → Point

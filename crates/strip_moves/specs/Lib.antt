@@ -3,4 +3,5 @@ pub mod Gains
 pub mod Grounds
 pub mod Listed
 pub mod Order
+pub mod Spans
 pub mod Ways

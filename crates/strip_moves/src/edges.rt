@@ -1,5 +1,5 @@
 ghost use Rattle.std.specs.Prelude.{◌≡◌, Contains, OnOk};
-ghost use Rattle.geo_rect.specs.Plane.{ShareNoPoint};
+ghost use Rattle.geo_rect.specs.Plane.{HasPoint, ShareNoPoint};
 ghost use Rattle.plane_core.specs.Labels.{IsPlane};
 ghost use Rattle.route_law.specs.Ground.{IsPassableStrip};
 ghost use Rattle.strip_moves.specs.Departures.{IsOnLargestBoard, IsOpen};
@@ -8,7 +8,7 @@ ghost use Rattle.strip_moves.specs.Ways.{IsStepInto, IsStepOnSide, IsStepAway};
 
 use crate::departures::Departure;
 use crate::labels::admits;
-use geo_rect::{List, NoMemory, Point, edge};
+use geo_rect::{List, NoMemory, Point, Rect, edge};
 use plane_core::{Plane, Side, Strip};
 use route_law::Entry;
 use std::alloc::Global;
@@ -26,15 +26,18 @@ pub fn push_steps<P: Plane>(
     requires passable { IsPassableStrip (P.strips plane.now) d.net d.from.strip }
     ensures { OnOk result (Gains moves.old moves.new d.origin (IsStepAway (P.strips plane.now) d)) }
 {
-    let corner = Point {
-        x: d.from.strip.x0,
-        y: d.from.strip.y0,
-    };
-    let t = plane.strip_at(corner);
+    let t = plane.strip_at(corner(d.from.strip));
     push_steps_on_side(alloc, plane, moves, d, t, Side::Left)?;
     push_steps_on_side(alloc, plane, moves, d, t, Side::Below)?;
     push_steps_on_side(alloc, plane, moves, d, t, Side::Right)?;
     push_steps_on_side(alloc, plane, moves, d, t, Side::Above)
+}
+
+/// The lower left point of a rectangle.
+fn corner(r: Rect) -> Point
+    ensures { HasPoint r result }
+{
+    Point { x: r.x0, y: r.y0 }
 }
 
 /// Adds what comes over the edges of the strips on one side of `t`, the one that the net leaves.

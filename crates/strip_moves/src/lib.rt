@@ -10,6 +10,8 @@ mod jumps;
 mod labels;
 mod laws;
 mod moves;
+mod net_planes;
+mod spans;
 mod starts;
 
 pub use laws::planes_are_a_ground;
