@@ -1,0 +1,9 @@
+pub mod Away
+pub mod Boards
+pub mod ByVias
+pub mod Found
+pub mod Gains
+pub mod Grounds
+pub mod InBoxes
+pub mod Sides
+pub mod Ways

@@ -1,0 +1,19 @@
+//! The ground on which a net walks over the planes of a board, the fronts in which it starts, and all
+//! moves from strip to strip.
+//!
+//! All coordinates are whole micrometres, and a cost is counted in micrometres of wire.
+#![tactic(auto)]
+
+mod departures;
+mod edges;
+mod jumps;
+mod labels;
+mod laws;
+mod moves;
+mod net_planes;
+mod spans;
+mod starts;
+
+pub use laws::planes_are_a_ground;
+pub use moves::moves_of;
+pub use starts::starts_of;
