@@ -1,3 +1,4 @@
+pub mod Connections
 pub mod Covers
 pub mod Ground
 pub mod Moves
