@@ -4,7 +4,7 @@ ghost use Rattle.std.specs.Prelude.{◌≡◌, ◌<◌, length, IfOk, IfSome, If
 ghost use Rattle.plane_set.specs.Standing.{HasPlanes};
 ghost use Rattle.route_law.specs.Walks.{last_node};
 ghost use Rattle.walk_check.specs.Corners.{HasPlaces, IsConnection, IsFirstBadCorner};
-ghost use Rattle.walk_check.specs.Grounds.{ground_of};
+ghost use Rattle.strip_moves.specs.Grounds.{ground_of};
 
 use crate::costs::cost_of;
 use crate::legs::first_bad_leg;
@@ -46,6 +46,8 @@ pub fn bad_corner<P: Plane>(
     requires places { HasPlaces conn.now }
     ensures some { IfOk result (λ bad. IfSome bad (λ k.
         IsFirstBadCorner board.now.parts (ground_of board.now.parts planes.now net) sources.now targets.now conn.now k)) }
+    ensures bad { IfOk result (λ bad. IfSome bad (λ k.
+        IsConnection board.now.parts (ground_of board.now.parts planes.now net) sources.now targets.now conn.now → ⊥)) }
     ensures none { IfOk result (λ bad. IfNone bad
         (IsConnection board.now.parts (ground_of board.now.parts planes.now net) sources.now targets.now conn.now)) }
 {

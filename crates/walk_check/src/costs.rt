@@ -9,7 +9,7 @@ ghost use Rattle.board_model.specs.WellFormed.{IsCoordinate, IsPlace, AreSteps};
 ghost use Rattle.plane_set.specs.Standing.{PlaneTable};
 ghost use Rattle.route_law.specs.Connections.{cost_of_leg, cost_of_legs};
 ghost use Rattle.walk_check.specs.Corners.{HasPlaces, HasKind};
-ghost use Rattle.walk_check.specs.Grounds.{ground_of};
+ghost use Rattle.strip_moves.specs.Grounds.{ground_of};
 
 use board_model::{Board, Conn, Leg};
 use geo_rect::Node;

@@ -8,7 +8,7 @@ ghost use Rattle.board_model.specs.WellFormed.{IsCoordinate, IsPlace, IsWire, Is
 ghost use Rattle.plane_set.specs.Standing.{HasPlanes};
 ghost use Rattle.walk_check.specs.Clear.{IsClearWire};
 ghost use Rattle.walk_check.specs.Corners.{HasPlaces, IsGoodLeg, AreGoodLegs, IsFirstBadLeg};
-ghost use Rattle.walk_check.specs.Grounds.{ground_of};
+ghost use Rattle.strip_moves.specs.Grounds.{ground_of};
 ghost use Rattle.board_model.specs.declared.made.Leg.TheVariants.{Wire, Via};
 
 use crate::grounds::{is_open_in, wire_ground};
