@@ -1,6 +1,6 @@
 -- What is open to a net of a plane is what it may pass of the ground; and an area is open where the strips
 -- that meet it are.
-use Rattle.std.proofs.Common.{◌≡◌, ◌↔◌, List, sym, subst, All}
+use Rattle.std.proofs.Common.{pos, ◌≡◌, ◌↔◌, List, sym, subst}
 use Rattle.std.specs.Prelude.{Contains}
 use Rattle.geo_rect.specs.declared.ids.KindId.{KindId}
 use Rattle.geo_rect.specs.declared.ids.Label.{Label}
@@ -19,7 +19,7 @@ use Rattle.plane_core.specs.Labels.{label_of, IsPlane}
 use Rattle.plane_core.specs.Strips.{IsHeld}
 use Rattle.plane_core.proofs.Local.{strip_labels}
 use Rattle.route_law.specs.Ground.{Ground, HasLayer, HasKind, IsPassableNode, IsPassableVia}
-use Rattle.walk_check.specs.Clear.{IsOpenAt, IsOpenIn, IsClearWire}
+use Rattle.walk_check.specs.Clear.{node_at, IsOpenAt, IsOpenIn, IsClearWire}
 
 module _ (region : Rect) (strips : List Strip) (net : NetId) (area : Rect) where
   pub not_inside : (LiesIn area region → ⊥) → IsOpenIn region strips net area → ⊥
@@ -64,4 +64,12 @@ module _ (g : Ground) (region : Rect) (strips : List Strip) (whole : region ≡ 
       inside = subst (λ (r : Rect). HasPoint r p) (sym whole) h.in_region;
       admits = subst (λ (ss : List Strip). Admits (label_of ss p) g.net) (sym same) h.admits;
     },
+  )
+
+-- the points of a wire are open on its layer exactly where the wire is clear
+module _ (g : Ground) (region : Rect) (strips : List Strip) (v w : Node) (area : Rect) (whole : region ≡ g.region) (same : strips ≡ g.wire_strips w.layer) (layer : HasLayer g w.layer) (line : area ≡ segment (place_of v) (place_of w) (pos 0)) where
+  pub wire_open : IsOpenIn region strips g.net area ↔ IsClearWire g v w
+  wire_open = (
+    λ f. record { each = λ p h. (node_open g region strips whole (node_at p w.layer) same layer).0 (f p (subst (λ (r : Rect). HasPoint r p) (sym line) h)) },
+    λ c p h. (node_open g region strips whole (node_at p w.layer) same layer).1 (c.each p (subst (λ (r : Rect). HasPoint r p) line h)),
   )

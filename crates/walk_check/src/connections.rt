@@ -1,6 +1,6 @@
 //! Whether a connection is a walk of a net, and its first bad corner.
 
-ghost use Rattle.std.specs.Prelude.{◌≡◌, ◌<◌, length, IfOk, IfSome, IfNone};
+ghost use Rattle.std.specs.Prelude.{◌≡◌, ◌<◌, ◌^◌, length, IfOk, IfSome, IfNone};
 ghost use Rattle.plane_set.specs.Standing.{HasPlanes};
 ghost use Rattle.route_law.specs.Walks.{last_node};
 ghost use Rattle.walk_check.specs.Corners.{HasPlaces, IsConnection, IsFirstBadCorner};
@@ -9,8 +9,8 @@ ghost use Rattle.strip_moves.specs.Grounds.{ground_of};
 use crate::costs::cost_of;
 use crate::legs::first_bad_leg;
 use crate::nodes::{has_node, is_good_start};
-use board_model::{Board, Conn};
-use geo_rect::{NetId, NoMemory, Node, Spot};
+use board_model::{Board, Conn, Leg};
+use geo_rect::{List, NetId, NoMemory, Node, Spot};
 use plane_core::Plane;
 use plane_set::PlaneSet;
 use std::alloc::Global;
@@ -65,4 +65,11 @@ pub fn bad_corner<P: Plane>(
         return Ok(Some(corners + 1));
     }
     Ok(None)
+}
+
+fn count(legs: &List<Leg>) -> u64
+    ensures exact { result ≡ length legs.now }
+    ensures small { result < 2 ^ 63 }
+{
+    legs.items.len() as u64
 }
