@@ -1,12 +1,13 @@
 -- A connection is a walk of the net exactly where each corner is good; and corners one by one.
-use Rattle.std.proofs.Common.{ℕ, zero, suc, ◌≡◌, ◌+◌, ◌<◌, List, length, Some, ◌↔◌, refl, sym, subst, arith}
+use Rattle.std.proofs.Common.{ℕ, zero, suc, ◌≡◌, ◌+◌, ◌<◌, List, length, get_or, All, Some, Option, None, IfNone, ◌↔◌, refl, sym, subst, arith}
 use Rattle.std.specs.Prelude.{slice_get}
-use Rattle.std.proofs.lemmas.Option.{slice_get_within}
+use Rattle.std.proofs.lemmas.Option.{slice_get_within, slice_get-get_or}
 use Rattle.geo_rect.specs.declared.ids.NetId.{NetId}
 use Rattle.geo_rect.specs.declared.ids.Node.{Node}
 use Rattle.geo_rect.specs.declared.ids.Spot.{Spot}
 use Rattle.board_model.specs.declared.made.Conn.{Conn}
 use Rattle.board_model.specs.declared.made.Leg.{Leg}
+use Rattle.board_model.specs.declared.made.Leg.TheVariants.{Wire, Via}
 use Rattle.board_model.specs.declared.parts.BoardParts.{BoardParts}
 use Rattle.plane_set.specs.Standing.{PlaneTable}
 use Rattle.route_law.specs.Connections.{steps_of}
@@ -14,8 +15,13 @@ use Rattle.route_law.specs.Ground.{Ground}
 use Rattle.route_law.specs.Walks.{HasNode, last_node, walk_cost}
 use Rattle.route_law.proofs.Law.{first_passable}
 use Rattle.strip_moves.specs.Grounds.{ground_of}
-use Rattle.walk_check.specs.Corners.{corner_after, HasPlaces, IsConnection, IsGoodStart, IsGoodLeg, IsGoodCorner, IsFirstBadCorner, AreGoodLegs, IsFirstBadLeg}
+use Rattle.walk_check.specs.Corners.{corner_after, HasPlaces, IsConnection, IsGoodStart, IsGoodLeg, IsGoodCorner, IsFirstBadCorner, AreGoodLegs, IsFirstBadLeg, HasKind}
 use Rattle.walk_check.proofs.GoodLegs.{AreGood, good_steps, legs_end, legs_walk, legs_good, good_at, good_from}
+
+-- what is said of no value holds where no value is the one
+pub if_none : (o : Option ℕ) (P : Type 0) → ((k : ℕ) → o ≡ Some k → ⊥) → IfNone o P → P
+if_none None P f h = h
+if_none (Some k) P f h = absurd (f k refl)
 
 module _ (b : BoardParts) (set : PlaneTable) (n : NetId) (sources targets : List Spot) (conn : Conn) where
   abbrev g : Ground
@@ -55,6 +61,14 @@ module _ (b : BoardParts) (set : PlaneTable) (n : NetId) (sources targets : List
   pub connection_by : HasPlaces conn → IsGoodStart g sources conn.start → AreGoodLegs b g conn.start conn.legs (length conn.legs) → HasNode targets end → walk_cost g (steps_of conn) ≡ conn.cost → IsConnection b g sources targets conn
   connection_by places start legs ends cost =
       connection_of places start (λ m leg e. legs m leg (slice_get_within conn.legs m leg e) e) ends cost
+
+  -- the kinds of the vias of good legs are the board's
+  kind_known : (v : Node) (leg : Leg) → IsGoodLeg b g v leg → HasKind b leg
+  kind_known v (Wire w) h = tt
+  kind_known v (Via k w) h = h.step.form.kind
+
+  pub kinds_known : AreGoodLegs b g conn.start conn.legs (length conn.legs) → All (HasKind b) conn.legs
+  kinds_known legs k d l = kind_known (corner_after conn.start conn.legs k) (get_or conn.legs k d) (legs k (get_or conn.legs k d) l (slice_get-get_or conn.legs k d l))
 
   pub good_throughout : HasPlaces conn → IsConnection b g sources targets conn ↔ ((k : ℕ) → IsGoodCorner b g sources targets conn k)
   good_throughout places = (

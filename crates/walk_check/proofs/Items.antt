@@ -1,14 +1,16 @@
 -- What holds of the items of a list that come before a place, and the nodes in which the first legs end.
 use Rattle.std.proofs.Common.{ℕ, zero, suc, ◌≡◌, ◌+◌, ◌<◌, List, [], ◌∷◌, ◌++◌, ◌⊎◌, inl, inr, Some, length, get_or, take, refl, sym, ◌∙◌, ap, subst, arith}
 use Rattle.std.specs.Prelude.{slice_get}
-use Rattle.std.proofs.lemmas.Option.{slice_get_read, same_Some}
+use Rattle.std.proofs.lemmas.Option.{slice_get-get_or, same_Some}
 use Rattle.std.proofs.lemmas.List.{take_more}
 use Rattle.geo_rect.specs.declared.ids.Node.{Node}
 use Rattle.board_model.specs.declared.made.Leg.{Leg}
+use Rattle.board_model.specs.declared.parts.BoardParts.{BoardParts}
 use Rattle.board_model.specs.Shapes.{end_of}
+use Rattle.route_law.specs.Ground.{Ground}
 use Rattle.route_law.specs.Walks.{last_node}
 use Rattle.route_law.proofs.Joining.{last_node-append}
-use Rattle.walk_check.specs.Corners.{corner_after}
+use Rattle.walk_check.specs.Corners.{corner_after, IsGoodLeg, AreGoodLegs, IsFirstBadLeg}
 
 -- an item before a place, or at it
 last_or_before : (m i : ℕ) → m < i + 1 → (m ≡ i) ⊎ (m < i)
@@ -27,6 +29,22 @@ items_more {X} P xs i x e before here m y l f =
     ]
 
 -- one more leg ends where it ends
-pub corner_more : (v : Node) (legs : List Leg) (i : ℕ) (leg : Leg) → i < length legs → leg ≡ get_or legs i leg → corner_after v legs (i + 1) ≡ end_of leg
-corner_more v legs i leg l e =
-    ap (last_node v) (take_more legs i leg l ∙ ap (λ (x : Leg). take i legs ++ x ∷ []) (sym e)) ∙ last_node-append v (take i legs) (leg ∷ [])
+pub corner_more : (v : Node) (legs : List Leg) (i : ℕ) (d : Leg) → i < length legs → corner_after v legs (i + 1) ≡ end_of (get_or legs i d)
+corner_more v legs i d l = ap (last_node v) (take_more legs i d l) ∙ last_node-append v (take i legs) (get_or legs i d ∷ [])
+
+-- the legs before number i are good, and the last of them ends in this node
+module _ (b : BoardParts) (g : Ground) (v : Node) (legs : List Leg) (i : ℕ) (d : Leg) (from : Node) (inside : i < length legs) (here : from ≡ corner_after v legs i) (before : AreGoodLegs b g v legs i) where
+  pub good_more : IsGoodLeg b g from (get_or legs i d) → AreGoodLegs b g v legs (i + 1)
+  good_more h =
+      items_more (λ (m : ℕ) (x : Leg). IsGoodLeg b g (corner_after v legs m) x) legs i (get_or legs i d) (slice_get-get_or legs i d inside) before
+      (subst (λ (u : Node). IsGoodLeg b g u (get_or legs i d)) here h)
+
+  pub first_bad : (IsGoodLeg b g from (get_or legs i d) → ⊥) → IsFirstBadLeg b g v legs (i + 1)
+  first_bad bad = record {
+    index = i;
+    leg = get_or legs i d;
+    numbered = refl;
+    listed = slice_get-get_or legs i d inside;
+    before = before;
+    bad = λ h. bad (subst (λ (u : Node). IsGoodLeg b g u (get_or legs i d)) (sym here) h);
+  }

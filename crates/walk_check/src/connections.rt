@@ -9,11 +9,19 @@ ghost use Rattle.strip_moves.specs.Grounds.{ground_of};
 use crate::costs::cost_of;
 use crate::legs::first_bad_leg;
 use crate::nodes::{has_node, is_good_start};
-use board_model::{Board, Conn, Leg};
-use geo_rect::{List, NetId, NoMemory, Node, Spot};
+use board_model::{Board, Conn};
+use geo_rect::{NetId, NoMemory, Node, Spot};
 use plane_core::Plane;
 use plane_set::PlaneSet;
 use std::alloc::Global;
+
+/// The number of legs. A list has fewer than 2^63 items.
+fn leg_count(conn: &Conn) -> u64
+    ensures exact { result ≡ length conn.now.legs }
+    ensures small { result < 2 ^ 63 }
+{
+    conn.legs.items.len() as u64
+}
 
 /// The node in which the connection ends.
 fn end_of(conn: &Conn) -> Node
@@ -57,7 +65,7 @@ pub fn bad_corner<P: Plane>(
     if let Some(corner) = first_bad_leg(alloc, board, planes, net, conn)? {
         return Ok(Some(corner));
     }
-    let corners = conn.legs.len() as u64;
+    let corners = leg_count(conn);
     if !has_node(targets, end_of(conn)) {
         return Ok(Some(corners));
     }
@@ -65,11 +73,4 @@ pub fn bad_corner<P: Plane>(
         return Ok(Some(corners + 1));
     }
     Ok(None)
-}
-
-fn count(legs: &List<Leg>) -> u64
-    ensures exact { result ≡ length legs.now }
-    ensures small { result < 2 ^ 63 }
-{
-    legs.items.len() as u64
 }
