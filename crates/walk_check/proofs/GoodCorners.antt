@@ -1,5 +1,5 @@
 -- A connection is a walk of the net exactly where each corner is good; and corners one by one.
-use Rattle.std.proofs.Common.{ℕ, zero, suc, ◌≡◌, ◌+◌, ◌<◌, List, length, get_or, All, Some, Option, None, IfNone, ◌↔◌, refl, sym, subst, arith}
+use Rattle.std.proofs.Common.{ℕ, ◌≡◌, ◌+◌, ◌<◌, List, length, get_or, All, Some, Option, None, IfNone, ◌↔◌, refl, sym, subst, arith}
 use Rattle.std.specs.Prelude.{slice_get}
 use Rattle.std.proofs.lemmas.Option.{slice_get_within, slice_get-get_or}
 use Rattle.geo_rect.specs.declared.ids.NetId.{NetId}
@@ -33,7 +33,7 @@ module _ (b : BoardParts) (set : PlaneTable) (n : NetId) (sources targets : List
   abbrev AreAll : Type 0
   AreAll = (m : ℕ) (leg : Leg) → slice_get conn.legs m ≡ Some leg → IsGoodLeg b g (corner_after conn.start conn.legs m) leg
 
-  corners_good : IsConnection b g sources targets conn → (k : ℕ) → IsGoodCorner b g sources targets conn k
+  corners_good : IsConnection b g conn sources targets → (k : ℕ) → IsGoodCorner b g conn sources targets k
   corners_good h k =
       let steps = h.well_formed.steps in
       let good : AreGood b set n conn.start conn.legs = legs_good b set n conn.start conn.legs steps h.walk.walk in
@@ -44,7 +44,7 @@ module _ (b : BoardParts) (set : PlaneTable) (n : NetId) (sources targets : List
         of_cost = λ e. h.cost;
       }
 
-  connection_of : HasPlaces conn → IsGoodStart g sources conn.start → AreAll → HasNode targets end → walk_cost g (steps_of conn) ≡ conn.cost → IsConnection b g sources targets conn
+  connection_of : HasPlaces conn → IsGoodStart g sources conn.start → AreAll → HasNode targets end → walk_cost g (steps_of conn) ≡ conn.cost → IsConnection b g conn sources targets
   connection_of places start legs ends cost =
       let good : AreGood b set n conn.start conn.legs = good_from b set n conn.start conn.legs legs in
       let steps = good_steps b set n conn.start conn.legs good in
@@ -58,7 +58,7 @@ module _ (b : BoardParts) (set : PlaneTable) (n : NetId) (sources targets : List
         cost = cost;
       }
 
-  pub connection_by : HasPlaces conn → IsGoodStart g sources conn.start → AreGoodLegs b g conn.start conn.legs (length conn.legs) → HasNode targets end → walk_cost g (steps_of conn) ≡ conn.cost → IsConnection b g sources targets conn
+  pub connection_by : HasPlaces conn → IsGoodStart g sources conn.start → AreGoodLegs b g conn.start conn.legs (length conn.legs) → HasNode targets end → walk_cost g (steps_of conn) ≡ conn.cost → IsConnection b g conn sources targets
   connection_by places start legs ends cost =
       connection_of places start (λ m leg e. legs m leg (slice_get_within conn.legs m leg e) e) ends cost
 
@@ -70,23 +70,23 @@ module _ (b : BoardParts) (set : PlaneTable) (n : NetId) (sources targets : List
   pub kinds_known : AreGoodLegs b g conn.start conn.legs (length conn.legs) → All (HasKind b) conn.legs
   kinds_known legs k d l = kind_known (corner_after conn.start conn.legs k) (get_or conn.legs k d) (legs k (get_or conn.legs k d) l (slice_get-get_or conn.legs k d l))
 
-  pub good_throughout : HasPlaces conn → IsConnection b g sources targets conn ↔ ((k : ℕ) → IsGoodCorner b g sources targets conn k)
+  pub good_throughout : HasPlaces conn → IsConnection b g conn sources targets ↔ ((k : ℕ) → IsGoodCorner b g conn sources targets k)
   good_throughout places = (
     corners_good,
     λ f. connection_of places ((f 0).at_start refl) (λ m leg e. (f (m + 1)).of_leg m leg refl e) ((f (length conn.legs)).at_end refl) ((f (length conn.legs + 1)).of_cost refl),
   )
 
-  pub bad_is_none : (k : ℕ) → IsFirstBadCorner b g sources targets conn k → IsConnection b g sources targets conn → ⊥
+  pub bad_is_none : (k : ℕ) → IsFirstBadCorner b g conn sources targets k → IsConnection b g conn sources targets → ⊥
   bad_is_none k h c = h.bad (corners_good c k)
 
-  pub bad_start : (IsGoodStart g sources conn.start → ⊥) → IsFirstBadCorner b g sources targets conn 0
+  pub bad_start : (IsGoodStart g sources conn.start → ⊥) → IsFirstBadCorner b g conn sources targets 0
   bad_start not_so = record { before = λ j l. absurd (omega arith); bad = λ h. not_so (h.at_start refl) }
 
   module _ (start : IsGoodStart g sources conn.start) where
-    corner_by : (j : ℕ) → ((m : ℕ) (leg : Leg) → j ≡ m + 1 → slice_get conn.legs m ≡ Some leg → IsGoodLeg b g (corner_after conn.start conn.legs m) leg) → (j ≡ length conn.legs → HasNode targets end) → j < length conn.legs + 1 → IsGoodCorner b g sources targets conn j
+    corner_by : (j : ℕ) → ((m : ℕ) (leg : Leg) → j ≡ m + 1 → slice_get conn.legs m ≡ Some leg → IsGoodLeg b g (corner_after conn.start conn.legs m) leg) → (j ≡ length conn.legs → HasNode targets end) → j < length conn.legs + 1 → IsGoodCorner b g conn sources targets j
     corner_by j legs ends l = record { at_start = λ e. start; of_leg = legs; at_end = ends; of_cost = λ e. absurd (omega arith) }
 
-    pub bad_leg : (k : ℕ) → IsFirstBadLeg b g conn.start conn.legs k → IsFirstBadCorner b g sources targets conn k
+    pub bad_leg : (k : ℕ) → IsFirstBadLeg b g conn.start conn.legs k → IsFirstBadCorner b g conn sources targets k
     bad_leg k h =
         let inside = slice_get_within conn.legs h.index h.leg h.listed in
         let number = h.numbered in
@@ -96,13 +96,13 @@ module _ (b : BoardParts) (set : PlaneTable) (n : NetId) (sources targets : List
         }
 
     module _ (legs : AreGoodLegs b g conn.start conn.legs (length conn.legs)) where
-      pub bad_end : (HasNode targets end → ⊥) → IsFirstBadCorner b g sources targets conn (length conn.legs)
+      pub bad_end : (HasNode targets end → ⊥) → IsFirstBadCorner b g conn sources targets (length conn.legs)
       bad_end not_so = record {
         before = λ j l. corner_by j (λ m leg e f. legs m leg (omega arith) f) (λ e. absurd (omega arith)) (omega arith);
         bad = λ c. not_so (c.at_end refl);
       }
 
-      pub bad_cost : HasNode targets end → (walk_cost g (steps_of conn) ≡ conn.cost → ⊥) → IsFirstBadCorner b g sources targets conn (length conn.legs + 1)
+      pub bad_cost : HasNode targets end → (walk_cost g (steps_of conn) ≡ conn.cost → ⊥) → IsFirstBadCorner b g conn sources targets (length conn.legs + 1)
       bad_cost ends not_so = record {
         before = λ j l. corner_by j (λ m leg e f. legs m leg (omega (arith, slice_get_within conn.legs m leg f)) f) (λ e. ends) l;
         bad = λ c. not_so (c.of_cost refl);

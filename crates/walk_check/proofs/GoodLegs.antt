@@ -1,5 +1,5 @@
 -- Good legs are a walk, and the legs of a walk are good.
-use Rattle.std.proofs.Common.{ℕ, zero, suc, ◌≡◌, ◌+◌, List, [], ◌∷◌, ◌++◌, ◌⊎◌, inl, inr, Some, refl, sym, ◌∙◌, ap, subst}
+use Rattle.std.proofs.Common.{ℕ, zero, suc, ◌≡◌, List, [], ◌∷◌, ◌++◌, ◌⊎◌, inl, inr, Some, refl, sym, ◌∙◌, ap, subst}
 use Rattle.std.specs.Prelude.{slice_get, ⊤}
 use Rattle.std.proofs.lemmas.Option.{same_Some}
 use Rattle.geo_rect.specs.declared.ids.NetId.{NetId}
@@ -45,8 +45,7 @@ module _ (b : BoardParts) (set : PlaneTable) (n : NetId) where
   leg_walk v (Wire w) p h = clear_walk g v w (straight_wire v w h.step.form) h.clear
   leg_walk v (Via k w) p h =
       let form = h.step.form in
-      let P : Point → Type 0 = λ q. IsPassableVia g k q in
-      (
+      let P : Point → Type 0 = λ q. IsPassableVia g k q in (
         p,
         record {
           passable = subst P (sym form.place) h.clear.via;
@@ -96,8 +95,7 @@ module _ (b : BoardParts) (set : PlaneTable) (n : NetId) where
   legs_good v (leg ∷ legs) s walk =
       let first : List Leg = steps_of_leg v leg in
       let second : List Leg = steps_of_legs (end_of leg) legs in
-      let parts = walk_parts g v first second walk in
-      (
+      let parts = walk_parts g v first second walk in (
         record { step = s.0; clear = leg_clear v leg s.0 parts.0 },
         legs_good (end_of leg) legs s.1 (subst (λ (u : Node). IsWalk g u second) (leg_end v leg s.0) parts.1),
       )

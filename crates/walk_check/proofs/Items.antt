@@ -1,5 +1,5 @@
 -- What holds of the items of a list that come before a place, and the nodes in which the first legs end.
-use Rattle.std.proofs.Common.{ℕ, zero, suc, ◌≡◌, ◌+◌, ◌<◌, List, [], ◌∷◌, ◌++◌, ◌⊎◌, inl, inr, Some, length, get_or, take, refl, sym, ◌∙◌, ap, subst, arith}
+use Rattle.std.proofs.Common.{ℕ, zero, suc, ◌≡◌, ◌+◌, ◌<◌, List, [], ◌∷◌, ◌⊎◌, inl, inr, Some, length, get_or, take, refl, sym, ◌∙◌, ap, subst, arith}
 use Rattle.std.specs.Prelude.{slice_get}
 use Rattle.std.proofs.lemmas.Option.{slice_get-get_or, same_Some}
 use Rattle.std.proofs.lemmas.List.{take_more}
@@ -18,7 +18,7 @@ last_or_before zero zero h = inl refl
 last_or_before zero (suc i) h = inr (omega arith)
 last_or_before (suc m) zero h = absurd (omega arith)
 last_or_before (suc m) (suc i) h =
-    elim (last_or_before m i (omega arith)) [ | inl e ↦ inl (ap suc e) | inr l ↦ inr (omega arith) ]
+    elim (last_or_before m i (omega arith)) [ inl e ↦ inl (ap suc e) | inr l ↦ inr (omega arith) ]
 
 -- what holds of the items before a place and of the one at it holds of those before the next place
 pub items_more : {X : Type 0} (P : ℕ → X → Type 0) (xs : List X) (i : ℕ) (x : X) → slice_get xs i ≡ Some x → ((m : ℕ) (y : X) → m < i → slice_get xs m ≡ Some y → P m y) → P i x → (m : ℕ) (y : X) → m < i + 1 → slice_get xs m ≡ Some y → P m y

@@ -1,5 +1,5 @@
 -- A straight wire is clear exactly where its units are a walk.
-use Rattle.std.proofs.Common.{ℕ, zero, suc, pos, ◌≡◌, ◌⊎◌, inl, inr, refl, sym, subst}
+use Rattle.std.proofs.Common.{ℕ, zero, suc, pos, ◌≡◌, inl, inr, refl, sym, subst}
 use Rattle.geo_rect.specs.declared.ids.LayerId.{LayerId}
 use Rattle.geo_rect.specs.declared.ids.Node.{Node}
 use Rattle.geo_rect.specs.declared.shapes.Point.{Point}

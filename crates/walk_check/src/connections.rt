@@ -53,11 +53,11 @@ pub fn bad_corner<P: Plane>(
     requires net { net.0 < length board.now.parts.net_names }
     requires places { HasPlaces conn.now }
     ensures some { IfOk result (λ bad. IfSome bad (λ k.
-        IsFirstBadCorner board.now.parts (ground_of board.now.parts planes.now net) sources.now targets.now conn.now k)) }
+        IsFirstBadCorner board.now.parts (ground_of board.now.parts planes.now net) conn.now sources.now targets.now k)) }
     ensures bad { IfOk result (λ bad. IfSome bad (λ k.
-        IsConnection board.now.parts (ground_of board.now.parts planes.now net) sources.now targets.now conn.now → ⊥)) }
+        IsConnection board.now.parts (ground_of board.now.parts planes.now net) conn.now sources.now targets.now → ⊥)) }
     ensures none { IfOk result (λ bad. IfNone bad
-        (IsConnection board.now.parts (ground_of board.now.parts planes.now net) sources.now targets.now conn.now)) }
+        (IsConnection board.now.parts (ground_of board.now.parts planes.now net) conn.now sources.now targets.now)) }
 {
     if !is_good_start(board, planes, net, sources, conn.start) {
         return Ok(Some(0));

@@ -4,7 +4,6 @@ ghost use Rattle.std.specs.Prelude.{◌≡◌, ◌<◌, ◌↔◌, length, All, 
 ghost use Rattle.geo_rect.specs.Axis.{HasNumber, LiesWithin};
 ghost use Rattle.geo_rect.specs.Plane.{columns, rows, HasPoint, LiesIn};
 ghost use Rattle.board_model.specs.Labels.{Admits};
-ghost use Rattle.plane_core.specs.Labels.{IsPlane};
 ghost use Rattle.plane_set.specs.Standing.{HasPlanes};
 ghost use Rattle.walk_check.specs.Clear.{IsOpenAt, IsOpenIn};
 ghost use Rattle.strip_moves.specs.Grounds.{ground_of};

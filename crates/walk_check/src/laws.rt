@@ -12,5 +12,5 @@ ghost use Rattle.strip_moves.specs.Grounds.{ground_of};
 /// A connection is a walk of the net with its true cost exactly where each of its corners is good.
 pub fn a_connection_has_no_bad_corner()
     ensures { (b : BoardParts) (set : PlaneTable) (n : NetId) (sources targets : List Spot) (conn : Conn) → HasPlaces conn
-        → IsConnection b (ground_of b set n) sources targets conn ↔ ((k : ℕ) → IsGoodCorner b (ground_of b set n) sources targets conn k) }
+        → IsConnection b (ground_of b set n) conn sources targets ↔ ((k : ℕ) → IsGoodCorner b (ground_of b set n) conn sources targets k) }
 {}

@@ -23,12 +23,7 @@ pub fn place_of(v: Node) -> Point
 }
 
 /// Whether the net may pass the node.
-pub fn is_passable_node<P: Plane>(
-    board: &Board,
-    planes: &PlaneSet<P>,
-    net: NetId,
-    v: Node,
-) -> bool
+pub fn is_passable_node<P: Plane>(board: &Board, planes: &PlaneSet<P>, net: NetId, v: Node) -> bool
     requires planes { HasPlanes board.now.parts planes.now }
     requires net { net.0 < length board.now.parts.net_names }
     ensures { IsTrue result ↔ IsPassableNode (ground_of board.now.parts planes.now net) v }

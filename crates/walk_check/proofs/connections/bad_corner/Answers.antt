@@ -1,6 +1,6 @@
-use Rattle.std.proofs.Common.{ℕ, ◌≡◌, ◌+◌, true, length, Option, IfSome, sym, ◌∙◌, ap, subst}
+use Rattle.std.proofs.Common.{ℕ, ◌≡◌, ◌+◌, true, length, Option, IfSome, sym, ◌∙◌, subst}
 use Rattle.geo_rect.specs.declared.ids.Node.{Node}
-use Rattle.route_law.specs.Connections.{steps_of, cost_of_legs}
+use Rattle.route_law.specs.Connections.{steps_of}
 use Rattle.route_law.specs.Walks.{HasNode, last_node, walk_cost}
 use Rattle.route_law.proofs.Joining.{walk_cost-legs}
 use Rattle.strip_moves.specs.Grounds.{ground_of}
@@ -17,7 +17,7 @@ returns-then-not-is_good_start g c =
     let targets = c.args.targets.now in
     let conn = c.args.conn.now in
     let ground = ground_of b set n in
-    let first : IsFirstBadCorner b ground sources targets conn 0 = bad_start b set n sources targets conn (λ h. let k : c.is_good_start.result ≡ true = c.is_good_start.ensures.1 h in let m = c.if-not-is_good_start.true in cc) in
+    let first : IsFirstBadCorner b ground conn sources targets 0 = bad_start b set n sources targets conn (λ h. let k : c.is_good_start.result ≡ true = c.is_good_start.ensures.1 h in let m = c.if-not-is_good_start.true in cc) in
     record { some = first; bad = bad_is_none b set n sources targets conn 0 first; none = tt }
 
 pub returns-in-Some : goal.returns-in-Some
@@ -31,7 +31,7 @@ returns-in-Some g c =
     let ground = ground_of b set n in
     let start : IsGoodStart ground sources conn.start = c.is_good_start.ensures.0 c.if-not-is_good_start.false in
     let P : Option ℕ → Type 0 = λ o. IfSome o (λ k. IsFirstBadLeg b ground conn.start conn.legs k) in
-    let first : IsFirstBadCorner b ground sources targets conn c.in-Some.corner = bad_leg b set n sources targets conn start c.in-Some.corner (subst P c.in-Some.is c.in_ok-corner.ensures.some) in
+    let first : IsFirstBadCorner b ground conn sources targets c.in-Some.corner = bad_leg b set n sources targets conn start c.in-Some.corner (subst P c.in-Some.is c.in_ok-corner.ensures.some) in
     record { some = first; bad = bad_is_none b set n sources targets conn c.in-Some.corner first; none = tt }
 
 pub returns-then-not-has_node : goal.returns-then-not-has_node
@@ -46,10 +46,10 @@ returns-then-not-has_node g c =
     let start : IsGoodStart ground sources conn.start = c.is_good_start.ensures.0 c.if-not-is_good_start.false in
     let legs : AreGoodLegs b ground conn.start conn.legs (length conn.legs) = if_none c.in_ok-corner.field-0 _ c.in_default.not-Some c.in_ok-corner.ensures.none in
     let away : HasNode targets (last_node conn.start conn.legs) → ⊥ = λ h.
-        let k : c.has_node.result ≡ true = c.has_node.ensures.1 (subst (λ (v : Node). HasNode targets v) (sym c.end_of.ensures) h) in
-        let m = c.if-not-has_node.true in
-        cc in
-    let first = subst (λ (k : ℕ). IsFirstBadCorner b ground sources targets conn k) (sym c.leg_count-corners.ensures.exact) (bad_end b set n sources targets conn start legs away) in
+    let k : c.has_node.result ≡ true = c.has_node.ensures.1 (subst (λ (v : Node). HasNode targets v) (sym c.end_of.ensures) h) in
+    let m = c.if-not-has_node.true in
+    cc in
+    let first = subst (λ (k : ℕ). IsFirstBadCorner b ground conn sources targets k) (sym c.leg_count-corners.ensures.exact) (bad_end b set n sources targets conn start legs away) in
     record { some = first; bad = bad_is_none b set n sources targets conn c.leg_count-corners.result first; none = tt }
 
 pub cost_of-requires-clause-kinds : goal.cost_of-requires-clause-kinds
@@ -70,7 +70,7 @@ returns-then-cost_of-conn g c =
     let legs : AreGoodLegs b ground conn.start conn.legs (length conn.legs) = if_none c.in_ok-corner.field-0 _ c.in_default.not-Some c.in_ok-corner.ensures.none in
     let ends : HasNode targets (last_node conn.start conn.legs) = subst (λ (v : Node). HasNode targets v) c.end_of.ensures (c.has_node.ensures.0 c.if-not-has_node.false) in
     let other : walk_cost ground (steps_of conn) ≡ conn.cost → ⊥ = λ h. c.if-cost_of-conn.true (c.cost_of.ensures set n ∙ sym (walk_cost-legs ground conn.start conn.legs) ∙ h) in
-    let first = subst (λ (k : ℕ). IsFirstBadCorner b ground sources targets conn (k + 1)) (sym c.leg_count-corners.ensures.exact) (bad_cost b set n sources targets conn start legs ends other) in
+    let first = subst (λ (k : ℕ). IsFirstBadCorner b ground conn sources targets (k + 1)) (sym c.leg_count-corners.ensures.exact) (bad_cost b set n sources targets conn start legs ends other) in
     record { some = first; bad = bad_is_none b set n sources targets conn (c.leg_count-corners.result + 1) first; none = tt }
 
 pub returns-clause-none : goal.returns-clause-none

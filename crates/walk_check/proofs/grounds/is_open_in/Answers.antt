@@ -1,4 +1,4 @@
-use Rattle.std.proofs.Common.{◌≡◌, List, Bool, true, false, All, sym, subst}
+use Rattle.std.proofs.Common.{◌≡◌, List, true, false, sym, subst}
 use Rattle.std.specs.Prelude.{Contains}
 use Rattle.std.proofs.lemmas.List.Elements.{All-contains, All-contains_itself, All-weaker}
 use Rattle.geo_rect.specs.declared.shapes.Rect.{Rect}
@@ -31,8 +31,7 @@ returns g c =
     let inside : LiesIn area region = subst (λ (r : Rect). LiesIn area r) whole (c.lies_in.ensures.0 lies) in
     let choice : IsChoice strips (λ s. Meets s.area area) found = subst (λ (ss : List Strip). IsChoice strips (λ s. Meets s.area area) ss) (sym c.as_slice.ensures) c.in_ok-found.ensures.found in
     let covered = subst (λ (ss : List Strip). (p : Point) → HasPoint area p → IsHeld ss p) (sym c.as_slice.ensures) c.in_ok-found.ensures.covered in
-    let Open : Strip → Type 0 = λ s. Admits s.label net in
-    (
+    let Open : Strip → Type 0 = λ s. Admits s.label net in (
       λ h. open_all region strips net area c.domain.ensures.canonical inside found choice covered (λ s k. All-contains Open found s (c.all_admit.ensures.0 h) k),
       λ f. c.all_admit.ensures.1 (All-weaker (Contains found) Open (each_open region strips net area c.domain.ensures.canonical inside found choice covered f) found (All-contains_itself found)),
     )

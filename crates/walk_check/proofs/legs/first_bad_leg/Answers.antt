@@ -14,7 +14,7 @@ returns-then-not-branch-clause-some g c =
     let i = c.loop-leg.leg-index in
     let l : i < length items = omega arith in
     let first : IsFirstBadLeg b ground start items (i + 1) = first_bad b ground start items i _ c.loop-leg.from l c.loop-leg.invariant.from c.loop-leg.invariant.good
-        (λ h. let k : c.in_ok-is_good_leg.field-0 ≡ true = (c.in_ok-is_good_leg.ensures {u = tt}).1 h in let n = c.if-not-branch.true in cc) in
+    (λ h. let k : c.in_ok-is_good_leg.field-0 ≡ true = (c.in_ok-is_good_leg.ensures {u = tt}).1 h in let n = c.if-not-branch.true in cc) in
     let P : List Leg → Type 0 = λ legs. IsFirstBadLeg b ground start legs (i + 1) in
     let Q : ℕ → Type 0 = λ k. IsFirstBadLeg b ground start c.args.conn.now.legs k in
     subst Q (ap (λ (k : ℕ). k + 1) (sym c.loop-leg.invariant.corner)) (subst P c.as_slice-leg-items.ensures first)

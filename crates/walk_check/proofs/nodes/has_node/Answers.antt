@@ -20,8 +20,7 @@ loop-spot-preserved c =
     (slice_get_read c.args.boxes.now (length c.args.boxes.now) c.loop-spot.spot-index c.spot-item.result refl l c.spot-item.is) c.loop-spot.invariant none
 
 pub returns : goal.returns
-returns c =
-    (
-      λ h. let k : false ≡ true = h in cc,
-      λ h. absurd (no_node c.args.boxes.now c.args.v (λ m box l e. c.loop-spot.invariant m box (omega arith) e) h),
-    )
+returns c = (
+  λ h. let k : false ≡ true = h in cc,
+  λ h. absurd (no_node c.args.boxes.now c.args.v (λ m box l e. c.loop-spot.invariant m box (omega arith) e) h),
+)
