@@ -1,5 +1,6 @@
 -- The starts in the strips that a box meets are the starts of the box.
-use Rattle.std.proofs.Common.{◌≡◌, refl, sym, ◌∙◌, subst, List, Contains}
+use Rattle.std.proofs.Common.{ℕ, ◌≡◌, refl, sym, ◌∙◌, subst, inl, inr, List, [], All, Contains}
+use Rattle.std.proofs.lemmas.List.Elements.{All-weaker, All-contains_itself}
 use Rattle.geo_rect.specs.declared.ids.LayerId.{LayerId}
 use Rattle.geo_rect.specs.declared.ids.NetId.{NetId}
 use Rattle.geo_rect.specs.declared.ids.Spot.{Spot}
@@ -8,10 +9,14 @@ use Rattle.geo_rect.specs.Plane.{IsMeet, ShareNoPoint}
 use Rattle.board_model.specs.Labels.{Admits}
 use Rattle.plane_core.specs.declared.strips.Strip.{Strip}
 use Rattle.plane_core.specs.Choice.{IsChoice, Meets}
+use Rattle.plane_core.proofs.Members.{has_none}
+use Rattle.route_law.specs.declared.certs.Entry.{Entry}
+use Rattle.route_law.specs.declared.certs.Origin.TheVariants.{Source}
 use Rattle.route_law.specs.Ground.{Ground, HasLayer, IsPassableStrip, IsWireStrip}
 use Rattle.route_law.specs.Moves.{Arrival}
 use Rattle.route_law.specs.Right.{IsStart}
-use Rattle.strip_moves.specs.Gains.{IsFromOneOf}
+use Rattle.strip_moves.specs.Gains.{Gains, IsFromOneOf}
+use Rattle.strip_moves.specs.Listed.{IsStartFrom}
 use Rattle.strip_moves.specs.Ways.{IsStartIn}
 use Rattle.strip_moves.proofs.Ways.{first_point, has_first, same_meet, same_arrival}
 
@@ -58,3 +63,13 @@ module _ (g : Ground) (strips found : List Strip) (box : Spot) (is : strips ≡ 
           cost = h.cost;
         };
       }
+
+-- what was gained by an empty list is all that it has
+pub starts_listed : (g : Ground) (box : Spot) (n : ℕ) (entries : List Entry) → Gains [] entries (Source n) (IsStart g box) → All (IsStartFrom g box n) entries
+starts_listed g box n entries h =
+    All-weaker (Contains entries) (IsStartFrom g box n)
+    (λ e k. elim (h.each e k) [
+      | inl none ↦ absurd (has_none e none)
+      | inr w ↦ record { start = w.wanted; from = w.from }
+    ])
+    entries (All-contains_itself entries)
