@@ -2,21 +2,18 @@
 use Rattle.std.proofs.Common.{ℕ, ℤ, pos, ◌+◌, ◌^◌, ◌<◌, ◌≤◌, ◌≤ℤ◌, arith}
 use Rattle.std.proofs.lemmas.Int.{ints}
 use Rattle.geo_rect.specs.declared.ids.NetId.{NetId}
-use Rattle.geo_rect.specs.declared.shapes.Interval.{Interval}
 use Rattle.geo_rect.specs.declared.shapes.Point.{Point}
 use Rattle.geo_rect.specs.declared.shapes.Rect.{Rect}
-use Rattle.geo_rect.specs.Axis.{HasNumber, LiesWithin, IsSmall}
 use Rattle.geo_rect.specs.Distance.{IsDistance}
 use Rattle.geo_rect.specs.Line.{between}
-use Rattle.geo_rect.specs.Plane.{columns, rows, HasPoint, LiesIn, IsBounded}
+use Rattle.geo_rect.specs.Plane.{columns, rows, HasPoint, LiesIn}
 use Rattle.geo_rect.proofs.Parts.{low_in, lies_in_from}
-use Rattle.board_model.specs.declared.limits.TheConstants.{MAX_SIDE}
 use Rattle.board_model.specs.declared.parts.BoardParts.{BoardParts}
 use Rattle.board_model.specs.Rules.{IsBoard, IsOnBoard}
 use Rattle.route_law.specs.declared.certs.Entry.{Entry}
 use Rattle.route_law.specs.declared.certs.Origin.{Origin}
 use Rattle.strip_moves.specs.Departures.{IsOnLargestBoard, IsOpen}
-use Rattle.strip_moves.specs.Grounds.{board_area, upto}
+use Rattle.strip_moves.specs.Grounds.{board_area}
 
 abbrev first : Rect → Point
 first r = record { x = r.x0; y = r.y0 }

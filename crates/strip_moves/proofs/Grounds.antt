@@ -1,5 +1,5 @@
 -- The planes of a state are a ground for each net, on which it may pass what the shapes leave to it.
-use Rattle.std.proofs.Common.{◌≡◌, ◌<◌, ℕ, ℤ, pos, ◌≤ℤ◌, List, [], Option, Some, ◌↔◌, inl, inr, length, get_or, refl, sym, ◌∙◌, ap, subst, arith}
+use Rattle.std.proofs.Common.{◌≡◌, ◌<◌, ℕ, ℤ, pos, List, [], Some, ◌↔◌, inl, inr, length, get_or, sym, ◌∙◌, ap, subst, arith}
 use Rattle.std.specs.Prelude.{slice_get, unsigned_abs}
 use Rattle.std.proofs.lemmas.Int.{ints}
 use Rattle.std.proofs.lemmas.Option.{slice_get-get_or, slice_get_cases}
@@ -110,8 +110,7 @@ module _ (b : BoardParts) (board : IsBoard b) where
     passes_node shapes set v h on =
         let size = h.planes.layers in
         let layer = on.layer in
-        let e = label_there Wires shapes set.wires v.layer.0 h.wires (omega arith) (wire_plane_found set h.planes v.layer.0 on.layer) (place_of v) on.place in
-        (
+        let e = label_there Wires shapes set.wires v.layer.0 h.wires (omega arith) (wire_plane_found set h.planes v.layer.0 on.layer) (place_of v) on.place in (
           λ q. subst (λ (m : Label). Admits m n) e q.admits,
           λ q. record { on_layer = on.layer; in_region = on.place; admits = subst (λ (m : Label). Admits m n) (sym e) q },
         )
@@ -119,8 +118,7 @@ module _ (b : BoardParts) (board : IsBoard b) where
     pub passes_via : (shapes : List Shape) (set : PlaneTable) (k : KindId) (p : Point) → StandsFor b shapes set → k.0 < length b.kinds → HasPoint (board_area b) p → IsPassableVia (ground_of b set n) k p ↔ IsViaPassable b shapes n k p
     passes_via shapes set k p h of_kind on =
         let size = h.planes.kinds in
-        let e = label_there Vias shapes set.vias k.0 h.vias (omega arith) (via_plane_found set h.planes k.0 of_kind) p on in
-        (
+        let e = label_there Vias shapes set.vias k.0 h.vias (omega arith) (via_plane_found set h.planes k.0 of_kind) p on in (
           λ q. subst (λ (m : Label). Admits m n) e q.admits,
           λ q. record { of_kind = of_kind; in_region = on; admits = subst (λ (m : Label). Admits m n) (sym e) q },
         )

@@ -1,4 +1,4 @@
-use Rattle.std.proofs.Common.{List, [], refl, sym, subst, arith}
+use Rattle.std.proofs.Common.{List, [], refl, subst, arith}
 use Rattle.geo_rect.specs.declared.ids.KindId.{KindId}
 use Rattle.route_law.specs.declared.certs.Entry.{Entry}
 use Rattle.route_law.specs.declared.certs.Origin.TheVariants.{Step, Via}

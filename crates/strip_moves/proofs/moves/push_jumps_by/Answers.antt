@@ -1,8 +1,7 @@
-use Rattle.std.proofs.Common.{◌≡◌, ◌<◌, length, ◌↔◌, refl, subst, sym, ap, ◌∙◌, arith}
+use Rattle.std.proofs.Common.{◌≡◌, ◌<◌, length, ◌↔◌, refl, subst, ap, arith}
 use Rattle.std.proofs.lemmas.Result.{on_ok_weaker}
 use Rattle.geo_rect.specs.declared.ids.LayerId.{LayerId}
 use Rattle.board_model.specs.declared.parts.ViaKind.{ViaKind}
-use Rattle.board_model.specs.Lookup.{kind_of}
 use Rattle.route_law.specs.declared.certs.Origin.TheVariants.{Via}
 use Rattle.route_law.specs.Ground.{Ground}
 use Rattle.route_law.specs.Moves.{arrival_of, IsViaMove}
