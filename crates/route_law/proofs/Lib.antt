@@ -1,8 +1,14 @@
+pub mod Attained
+pub mod Before
+pub mod Beside
 pub mod Bounds
+pub mod Determined
 pub mod Doors
 pub mod Ends
 pub mod Joining
 pub mod Law
+pub mod OnBoards
 pub mod Passed
 pub mod StepBounds
+pub mod Ways
 pub mod Wires

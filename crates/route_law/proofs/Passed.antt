@@ -1,5 +1,5 @@
 -- Where the net may pass a point, it may pass the strip that has the point, and that strip is one.
-use Rattle.std.proofs.Common.{◌≡◌, refl, ap, subst, ◌⊎◌, inl, inr, Bool, true, false, List}
+use Rattle.std.proofs.Common.{◌≡◌, refl, sym, ap, subst, ◌⊎◌, inl, inr, Bool, true, false, List}
 use Rattle.geo_rect.specs.declared.ids.KindId.{KindId}
 use Rattle.geo_rect.specs.declared.ids.Label.{Label}
 use Rattle.geo_rect.specs.declared.ids.LayerId.{LayerId}
@@ -13,10 +13,10 @@ use Rattle.board_model.specs.Shapes.{place_of}
 use Rattle.plane_core.specs.declared.strips.Strip.{Strip}
 use Rattle.plane_core.specs.Labels.{has_point, label_of, IsPlane}
 use Rattle.plane_core.specs.Strips.{IsHeld}
-use Rattle.plane_core.proofs.Alike.{strips_meet}
+use Rattle.plane_core.proofs.Alike.{strip_inside, strips_meet}
 use Rattle.plane_core.proofs.Labelled.{has_point_tells}
 use Rattle.plane_core.proofs.Local.{strip_labels}
-use Rattle.route_law.specs.Ground.{Ground, IsGround, IsPassableNode, IsPassableVia, IsPassableStrip, IsWireStrip}
+use Rattle.route_law.specs.Ground.{Ground, IsGround, IsPassableNode, IsPassableVia, IsPassableStrip, IsWireStrip, IsViaStrip}
 
 -- a strip that the net may pass and that has the point
 pub record IsPassedAt (strips : List Strip) (net : NetId) (p : Point) : Type 0 where
@@ -39,6 +39,36 @@ wire_at g v ground p = passed_at g.region (g.wire_strips v.layer) g.net (place_o
 
 pub via_at : (g : Ground) (k : KindId) (p : Point) → IsGround g → IsPassableVia g k p → IsPassedAt (g.via_strips k) g.net p
 via_at g k p ground h = passed_at g.region (g.via_strips k) g.net p (ground.vias k h.of_kind) h.in_region h.admits
+
+-- the node on a layer at a place
+abbrev pub node_at : LayerId → Point → Node
+node_at l p = record { x = p.x; y = p.y; layer = l }
+
+-- what holds of each point of a strip that the net may pass
+record IsAdmitted (region : Rect) (strips : List Strip) (net : NetId) (p : Point) : Type 0 where
+  in_region : HasPoint region p
+  admits : Admits (label_of strips p) net
+
+strip_admits : (region : Rect) (strips : List Strip) (net : NetId) (t : Rect) (p : Point) → IsPlane region strips → IsPassableStrip strips net t → HasPoint t p → IsAdmitted region strips net p
+strip_admits region strips net t p plane s h =
+    let a : Strip = record { area = t; label = s.label } in
+    let e : label_of strips p ≡ a.label = strip_labels region (label_of strips) a (plane.each a s.listed) p h in
+    record {
+      in_region = strip_inside region (label_of strips) a p (plane.each a s.listed) h;
+      admits = subst (λ (m : Label). Admits m net) (sym e) s.admits;
+    }
+
+-- the net may pass each node of a strip that it may pass
+pub strip_passable : (g : Ground) (l : LayerId) (t : Rect) (p : Point) → IsGround g → IsWireStrip g l t → HasPoint t p → IsPassableNode g (node_at l p)
+strip_passable g l t p ground s h =
+    let a = strip_admits g.region (g.wire_strips l) g.net t p (ground.wires l s.on_layer) s.strip h in
+    record { on_layer = s.on_layer; in_region = a.in_region; admits = a.admits }
+
+-- and likewise for vias
+pub via_strip_passable : (g : Ground) (k : KindId) (w : Rect) (p : Point) → IsGround g → IsViaStrip g k w → HasPoint w p → IsPassableVia g k p
+via_strip_passable g k w p ground s h =
+    let a = strip_admits g.region (g.via_strips k) g.net w p (ground.vias k s.of_kind) s.strip h in
+    record { of_kind = s.of_kind; in_region = a.in_region; admits = a.admits }
 
 -- two strips of a layer that share a point are one
 pub one_wire_strip : (g : Ground) (l : LayerId) (t u : Rect) (p : Point) → IsGround g → IsWireStrip g l t → IsWireStrip g l u → HasPoint t p → HasPoint u p → t ≡ u

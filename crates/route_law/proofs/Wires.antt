@@ -1,13 +1,11 @@
 -- The units of a straight wire: they end where the wire does, and lie in each rectangle that has both its ends.
-use Rattle.std.proofs.Common.{ℕ, zero, suc, ℤ, pos, ◌≡◌, ◌+ℤ◌, ◌-ℤ◌, ◌<ℤ◌, ◌⊎◌, inl, inr, refl, sym, ap, subst, ◌∙◌, Bool, true, false, if◌then◌else◌, List, arith}
+use Rattle.std.proofs.Common.{ℕ, zero, suc, ℤ, pos, ◌≡◌, ◌+ℤ◌, ◌-ℤ◌, ◌<ℤ◌, ◌⊎◌, inl, inr, refl, sym, ap, subst, ◌∙◌, Bool, true, false, if◌then◌else◌, arith}
 use Rattle.std.specs.Prelude.{int_lt}
 use Rattle.std.proofs.lemmas.Bool.Decides.{not_from_Decides}
 use Rattle.std.proofs.lemmas.Int.{ints}
-use Rattle.geo_rect.specs.declared.ids.Label.{Label}
 use Rattle.geo_rect.specs.declared.ids.LayerId.{LayerId}
 use Rattle.geo_rect.specs.declared.ids.Node.{Node}
 use Rattle.geo_rect.specs.declared.shapes.Interval.{Interval}
-use Rattle.geo_rect.specs.declared.shapes.Point.{Point}
 use Rattle.geo_rect.specs.declared.shapes.Rect.{Rect}
 use Rattle.geo_rect.specs.Axis.{HasNumber}
 use Rattle.geo_rect.specs.Distance.{apart}
@@ -15,15 +13,11 @@ use Rattle.geo_rect.specs.Line.{between}
 use Rattle.geo_rect.specs.Plane.{HasPoint, columns, rows}
 use Rattle.geo_rect.proofs.Steps.{between-zero}
 use Rattle.geo_rect.proofs.Tests.{Decides-int_lt}
-use Rattle.board_model.specs.Labels.{Admits}
 use Rattle.board_model.specs.Shapes.{place_of}
-use Rattle.plane_core.specs.declared.strips.Strip.{Strip}
-use Rattle.plane_core.specs.Labels.{label_of, IsPlane}
-use Rattle.plane_core.proofs.Alike.{strip_inside}
-use Rattle.plane_core.proofs.Local.{strip_labels}
 use Rattle.route_law.specs.Connections.{toward, node_toward, units, IsStraight}
 use Rattle.route_law.specs.Ground.{Ground, IsGround, IsPassableNode, IsWireStrip}
 use Rattle.route_law.specs.Walks.{IsUnitStep, IsWalk, last_node}
+use Rattle.route_law.proofs.Passed.{node_at, strip_passable}
 
 -- t is one unit from x on the way to y, or y itself
 pub data Toward (x y t : ℤ) : Type 0 where
@@ -108,26 +102,13 @@ last_of_units : (n : ℕ) (v w : Node) → IsStraight v w → apart (place_of v)
 last_of_units zero v w s d = same_node v w s.same_layer d
 last_of_units (suc n) v w s d = let u = unit_on v w n s d in last_of_units n (node_toward v w) w u.straight u.rest
 
--- the net may pass each node of a strip that it may pass
-pub strip_passable : (g : Ground) (l : LayerId) (t : Rect) (p : Point) → IsGround g → IsWireStrip g l t → HasPoint t p → IsPassableNode g (record { x = p.x; y = p.y; layer = l })
-strip_passable g l t p ground s h =
-    let strips : List Strip = g.wire_strips l in
-    let plane : IsPlane g.region strips = ground.wires l s.on_layer in
-    let a : Strip = record { area = t; label = s.strip.label } in
-    let e : label_of strips p ≡ a.label = strip_labels g.region (label_of strips) a (plane.each a s.strip.listed) p h in
-    record {
-      on_layer = s.on_layer;
-      in_region = strip_inside g.region (label_of strips) a p (plane.each a s.strip.listed) h;
-      admits = subst (λ (m : Label). Admits m g.net) (sym e) s.strip.admits;
-    }
-
 module _ (g : Ground) (l : LayerId) (t : Rect) (ground : IsGround g) (strip : IsWireStrip g l t) where
   units_walk : (n : ℕ) (v w : Node) → v.layer ≡ l → IsStraight v w → apart (place_of v) (place_of w) ≡ n → HasPoint t (place_of v) → HasPoint t (place_of w) → IsWalk g v (units n v w)
   units_walk zero v w e s d h k =
-      let P : LayerId → Type 0 = λ m. IsPassableNode g (record { x = v.x; y = v.y; layer = m }) in
+      let P : LayerId → Type 0 = λ m. IsPassableNode g (node_at m (place_of v)) in
       subst P (sym e) (strip_passable g l t (place_of v) ground strip h)
   units_walk (suc n) v w e s d h k =
-      let P : LayerId → Type 0 = λ m. IsPassableNode g (record { x = v.x; y = v.y; layer = m }) in
+      let P : LayerId → Type 0 = λ m. IsPassableNode g (node_at m (place_of v)) in
       let u = unit_on v w n s d in
       let i : HasPoint t (place_of (node_toward v w)) = record {
         across = toward_inside (columns t) v.x w.x (toward v.x w.x) (toward_is v.x w.x) h.across k.across;

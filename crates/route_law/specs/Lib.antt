@@ -1,3 +1,4 @@
+pub mod Boards
 pub mod Connections
 pub mod Covers
 pub mod Ground

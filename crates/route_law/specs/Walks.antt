@@ -68,3 +68,11 @@ IsLowerBound g sources targets d = (start : Node) (steps : List Leg) → IsJoini
 -- no walk joins the sources and the targets
 abbrev pub HasNoJoiningWalk : Ground → List Spot → List Spot → Type 0
 HasNoJoiningWalk g sources targets = (start : Node) (steps : List Leg) → IsJoiningWalk g sources targets start steps → ⊥
+
+-- d is what some walk that joins the sources and the targets costs, and none costs less
+pub record IsLeastCost (g : Ground) (sources targets : List Spot) (d : ℕ) : Type 0 where
+  pub start : Node
+  pub steps : List Leg
+  pub joins : IsJoiningWalk g sources targets start steps
+  pub cost : walk_cost g steps ≡ d
+  pub least : IsLowerBound g sources targets d

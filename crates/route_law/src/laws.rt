@@ -1,10 +1,10 @@
-//! The law of certificates. The function does nothing: its contract is the law.
+//! The laws of certificates. The functions do nothing: their contracts are the laws.
 ghost use Rattle.std.specs.Prelude.{List, IfSome, IfNone};
 ghost use Rattle.geo_rect.specs.declared.ids.Spot.{Spot};
 ghost use Rattle.route_law.specs.declared.certs.Cert.{Cert};
 ghost use Rattle.route_law.specs.Ground.{Ground, IsGround};
 ghost use Rattle.route_law.specs.Right.{IsRight};
-ghost use Rattle.route_law.specs.Walks.{IsLowerBound, HasNoJoiningWalk};
+ghost use Rattle.route_law.specs.Walks.{IsLowerBound, HasNoJoiningWalk, IsLeastCost};
 
 /// A right certificate, whoever made it, bounds every walk: no walk from a source box to a target
 /// box costs less than its bound, and where it has no bound there is no such walk.
@@ -13,4 +13,11 @@ pub fn a_right_certificate_bounds_every_walk()
         → IfSome cert.bound (λ d. IsLowerBound g sources targets d) }
     ensures none { (g : Ground) (sources targets : List Spot) (cert : Cert) → IsGround g → IsRight g sources targets cert
         → IfNone cert.bound (HasNoJoiningWalk g sources targets) }
+{}
+
+/// The bound of a right certificate is what the cheapest walk costs: some walk from a source box to a
+/// target box costs just that.
+pub fn the_bound_of_a_right_certificate_is_reached()
+    ensures { (g : Ground) (sources targets : List Spot) (cert : Cert) → IsGround g → IsRight g sources targets cert
+        → IfSome cert.bound (λ d. IsLeastCost g sources targets d) }
 {}

@@ -1,10 +1,8 @@
 //! What the definitions of walks and connections give. These functions do nothing: their contracts
 //! are the laws.
 ghost use Rattle.std.specs.Prelude.{◌≡◌, ◌+◌, ◌++◌, List};
-ghost use Rattle.geo_rect.specs.declared.ids.LayerId.{LayerId};
 ghost use Rattle.geo_rect.specs.declared.ids.Node.{Node};
-ghost use Rattle.geo_rect.specs.declared.shapes.Rect.{Rect as Area};
-ghost use Rattle.geo_rect.specs.Distance.{apart};
+ghost use Rattle.geo_rect.specs.declared.shapes.Rect.{Rect};
 ghost use Rattle.geo_rect.specs.Plane.{HasPoint};
 ghost use Rattle.board_model.specs.declared.made.Conn.{Conn};
 ghost use Rattle.board_model.specs.declared.made.Leg.{Leg};
@@ -24,7 +22,7 @@ pub fn walks_join_end_to_end()
 
 /// A straight wire within a strip that the net may pass is a walk to its end.
 pub fn a_wire_within_a_strip_is_a_walk()
-    ensures walk { (g : Ground) (t : Area) (v w : Node) → IsGround g → IsWireStrip g v.layer t → IsStraight v w
+    ensures walk { (g : Ground) (t : Rect) (v w : Node) → IsGround g → IsWireStrip g v.layer t → IsStraight v w
         → HasPoint t (place_of v) → HasPoint t (place_of w) → IsWalk g v (steps_of_leg v (Wire w)) }
     ensures end { (v w : Node) → IsStraight v w → last_node v (steps_of_leg v (Wire w)) ≡ w }
 {}
