@@ -9,3 +9,4 @@ pub mod NameLists
 pub mod NameTables
 pub mod Squares
 pub mod StateShapes
+pub mod WellFormed

@@ -1,6 +1,6 @@
 -- That each shape of a state is known, where the connections are well formed.
-use Rattle.std.proofs.Common.{◌≡◌, ℕ, ℤ, pos, ◌+◌, ◌-◌, ◌<◌, ◌≤◌, List, [], ◌∷◌, ◌++◌, length, map, get_or, drop, All, ap, ◌∙◌, sym, subst, refl, ◌⊎◌, inl, inr, arith, append_assoc, append-nil}
-use Rattle.std.specs.List.{range_with_len, flat_map}
+use Rattle.std.proofs.Common.{◌≡◌, ℕ, ℤ, pos, ◌+◌, ◌-◌, ◌<◌, ◌≤◌, List, [], ◌∷◌, ◌++◌, length, get_or, drop, All, ap, ◌∙◌, sym, subst, ◌⊎◌, inl, inr, arith, append-nil}
+use Rattle.std.specs.List.{flat_map}
 use Rattle.std.proofs.lemmas.Bool.{cases_lt}
 use Rattle.std.proofs.lemmas.Int.{ints, clamps}
 use Rattle.std.proofs.lemmas.List.{get_or_past, drop_all}
@@ -11,7 +11,6 @@ use Rattle.geo_rect.specs.declared.ids.LayerId.{LayerId}
 use Rattle.geo_rect.specs.declared.ids.NetId.{NetId}
 use Rattle.geo_rect.specs.declared.ids.Node.{Node}
 use Rattle.geo_rect.specs.declared.shapes.Point.{Point}
-use Rattle.geo_rect.specs.declared.shapes.Rect.{Rect}
 use Rattle.geo_rect.specs.Plane.{square}
 use Rattle.board_model.specs.declared.parts.BoardParts.{BoardParts}
 use Rattle.board_model.specs.declared.parts.ViaKind.{ViaKind}
@@ -97,10 +96,6 @@ module _ (b : BoardParts) (h : IsBoard b) where
   -- each shape of a state is known, where the connections are well formed
   pub state_known : (lists : List (List Conn)) → length lists ≡ length b.net_names → AreWellFormed b lists → All (IsKnown b) (state_shapes b lists)
   state_known lists e w = All-append (IsKnown b) (board_shapes b) (made_shapes b 0 lists) (board_known b h) (made_known 0 lists (omega arith) w)
-
--- empty lists are well formed
-pub none_well_formed : (b : BoardParts) (lists : List (List Conn)) → All (λ conns. conns ≡ []) lists → AreWellFormed b lists
-none_well_formed b lists h = All-weaker (λ conns. conns ≡ []) (All (IsWellFormed b)) (λ conns e. subst (All (IsWellFormed b)) (sym e) (All-nil (IsWellFormed b))) lists h
 
 -- where no nets are left, nothing is left to add
 pub made_all : (b : BoardParts) (lists : List (List Conn)) (n : ℕ) (xs zs : List Shape) → length lists ≤ n → xs ++ made_shapes b n (drop n lists) ≡ zs → xs ≡ zs

@@ -1,6 +1,6 @@
 -- Connections that keep the form of wires and vias. Corner 0 of a connection is its start, and corner k
 -- the node in which leg k ends, from 1.
-use Rattle.std.specs.Prelude.{◌≡◌, ◌≢◌, ◌<◌, ◌≤ℤ◌, ◌^◌, ℤ, pos, List, [], ◌∷◌, length, All, ◌⊎◌, ⊤}
+use Rattle.std.specs.Prelude.{◌≡◌, ◌≢◌, ◌<◌, ◌≤ℤ◌, ◌^◌, ℤ, pos, List, [], ◌∷◌, length, All, ⊤}
 use Rattle.std.proofs.Common.{neg_ℤ}
 use Rattle.geo_rect.specs.declared.ids.KindId.{KindId}
 use Rattle.geo_rect.specs.declared.ids.Node.{Node}

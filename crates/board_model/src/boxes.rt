@@ -99,12 +99,7 @@ fn push_conn(boxes: &mut List<Spot>, board: &Board, conn: &Conn) -> Result<(), N
 }
 
 /// Adds the boxes of a leg from a node.
-fn push_leg(
-    boxes: &mut List<Spot>,
-    board: &Board,
-    from: Node,
-    leg: Leg,
-) -> Result<(), NoMemory>
+fn push_leg(boxes: &mut List<Spot>, board: &Board, from: Node, leg: Leg) -> Result<(), NoMemory>
     requires from { IsCorner board.now.parts from }
     requires step { IsStep board.now.parts from leg }
     ensures { OnOk result (boxes.new ≡ boxes.old ++ leg_boxes board.now.parts from leg) }

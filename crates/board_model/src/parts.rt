@@ -1,7 +1,7 @@
 use geo_rect::{ClassId, LayerId, List, NetId, Rect, Text};
 
 /// What a class of nets keeps on a layer, in micrometres.
-#[derive(Clone, Copy, Debug, PartialEq, Eq)]
+#[derive(Clone, Copy, Debug)]
 pub struct Rule {
     /// Half the width of a wire.
     pub half: i32,
@@ -11,7 +11,7 @@ pub struct Rule {
 
 /// A kind of via: the layers that it joins, from the first to the last, and what one costs, in
 /// micrometres of wire.
-#[derive(Clone, Copy, Debug, PartialEq, Eq)]
+#[derive(Clone, Copy, Debug)]
 pub struct ViaKind {
     pub first: LayerId,
     pub last: LayerId,
@@ -19,14 +19,14 @@ pub struct ViaKind {
 }
 
 /// A blockage: an area of a layer that no net may come near.
-#[derive(Clone, Copy, Debug, PartialEq, Eq)]
+#[derive(Clone, Copy, Debug)]
 pub struct Block {
     pub layer: LayerId,
     pub area: Rect,
 }
 
 /// A pin: an area of a net, on each layer from the first to the last.
-#[derive(Clone, Copy, Debug, PartialEq, Eq)]
+#[derive(Clone, Copy, Debug)]
 pub struct Pin {
     pub net: NetId,
     pub area: Rect,

@@ -1,8 +1,14 @@
+ghost use Rattle.std.specs.Prelude.{◌≡◌, ◌<◌, length, IfOk};
+ghost use Rattle.board_model.specs.WellFormed.{IsWellFormed, AreWellFormed};
+
 use crate::boards::Board;
-use crate::made::Made;
+use crate::boxes::{attach_boxes, target_boxes};
+use crate::conn_shapes::shapes_of;
+use crate::made::{Conn, Leg, Made, copy_conns};
 use crate::parts::{Block, BoardParts, Pin, Rule, ViaKind};
+use crate::shapes::Shape;
 use crate::states::all_shapes;
-use geo_rect::{ClassId, KindId, LayerId, List, NetId, NoMemory, Rect, Text};
+use geo_rect::{ClassId, KindId, LayerId, List, NetId, NoMemory, Node, Rect, Spot, Text};
 use std::alloc::Global;
 use std::process::Abort;
 use std::test::Fail;
@@ -123,5 +129,110 @@ fn shapes_of_a_board(rt: HostRuntime) -> Result<(), Fail> {
     assert_eq!(rt; shapes.len(), 6);
     assert_eq!(rt; shapes.as_slice()[5].layer, LayerId(1));
     assert_eq!(rt; shapes.as_slice()[0].owner, None);
+    Ok(())
+}
+
+/// A wire of net a from its first pin to its second, and a via there.
+fn wire_and_via(alloc: Global, board: &Board) -> Result<Conn, NoMemory>
+    requires layers { length board.now.parts.layers ≡ 2 }
+    requires kinds { 0 < length board.now.parts.kinds }
+    ensures { IfOk result (λ conn. IsWellFormed board.now.parts conn) }
+{
+    let start = Node {
+        x: 3,
+        y: 5,
+        layer: LayerId(0),
+    };
+    let corner = Node {
+        x: 9,
+        y: 5,
+        layer: LayerId(0),
+    };
+    let end = Node {
+        x: 9,
+        y: 5,
+        layer: LayerId(1),
+    };
+    let legs = List::from_slice(alloc, &[Leg::Wire(corner), Leg::Via(KindId(0), end)])?;
+    Ok(Conn {
+        start,
+        legs,
+        cost: 11,
+    })
+}
+
+/// That connection of net a, and no other.
+fn one_made(alloc: Global, board: &Board) -> Result<Made, NoMemory>
+    requires layers { length board.now.parts.layers ≡ 2 }
+    requires kinds { 0 < length board.now.parts.kinds }
+    requires nets { 0 < length board.now.parts.net_names }
+    ensures nets { IfOk result (λ made. length made.lists ≡ length board.now.parts.net_names) }
+    ensures well_formed { IfOk result (λ made. AreWellFormed board.now.parts made.lists) }
+{
+    let conn = wire_and_via(alloc, board)?;
+    let mut made = Made::none(alloc, board)?;
+    made.append(NetId(0), conn)?;
+    Ok(made)
+}
+
+fn is_shape(shape: &Shape, layer: u32, area: Rect) -> bool {
+    *shape
+        == Shape {
+            area,
+            layer: LayerId(layer),
+            owner: Some(NetId(0)),
+        }
+}
+
+fn is_spot(spot: &Spot, layer: u32, area: Rect) -> bool {
+    *spot
+        == Spot {
+            layer: LayerId(layer),
+            area,
+        }
+}
+
+#[test]
+fn shapes_of_a_connection(rt: HostRuntime) -> Result<(), Fail> {
+    let board = build(&rt, rt.alloc())?;
+    assert_eq!(rt; (board.layers(), board.kinds(), board.nets()), (2, 2, 2));
+    let conn = wire_and_via(rt.alloc(), &board)?;
+    let shapes = shapes_of(rt.alloc(), &board, NetId(0), &conn)?;
+    assert_eq!(rt; shapes.len(), 3);
+    assert!(rt; is_shape(&shapes.as_slice()[0], 0, Rect::new(2, 4, 10, 6)));
+    assert!(rt; is_shape(&shapes.as_slice()[1], 0, Rect::new(7, 3, 11, 7)));
+    assert!(rt; is_shape(&shapes.as_slice()[2], 1, Rect::new(7, 3, 11, 7)));
+    Ok(())
+}
+
+#[test]
+fn boxes_of_a_net(rt: HostRuntime) -> Result<(), Fail> {
+    let board = build(&rt, rt.alloc())?;
+    assert_eq!(rt; (board.layers(), board.kinds(), board.nets()), (2, 2, 2));
+    assert_eq!(rt; board.pin_count(NetId(0)), 2);
+    let made = one_made(rt.alloc(), &board)?;
+    assert_eq!(rt; made.conns(NetId(0)).len(), 1);
+    let sources = attach_boxes(rt.alloc(), &board, &made, NetId(0))?;
+    assert_eq!(rt; sources.len(), 7);
+    assert!(rt; is_spot(&sources.as_slice()[1], 1, Rect::new(3, 5, 3, 5)));
+    assert!(rt; is_spot(&sources.as_slice()[2], 0, Rect::new(9, 5, 9, 5)));
+    assert!(rt; is_spot(&sources.as_slice()[4], 0, Rect::new(3, 5, 9, 5)));
+    assert!(rt; is_spot(&sources.as_slice()[6], 1, Rect::new(9, 5, 9, 5)));
+    let targets = target_boxes(rt.alloc(), &board, NetId(0), 1)?;
+    assert_eq!(rt; targets.len(), 2);
+    assert!(rt; is_spot(&targets.as_slice()[0], 0, Rect::new(9, 5, 9, 5)));
+    Ok(())
+}
+
+#[test]
+fn connections_come_and_go(rt: HostRuntime) -> Result<(), Fail> {
+    let board = build(&rt, rt.alloc())?;
+    assert_eq!(rt; (board.layers(), board.kinds(), board.nets()), (2, 2, 2));
+    let mut made = one_made(rt.alloc(), &board)?;
+    let copy = copy_conns(rt.alloc(), made.conns(NetId(0)))?;
+    assert_eq!(rt; (copy.len(), made.conns(NetId(1)).len()), (1, 0));
+    assert_eq!(rt; copy.as_slice()[0].legs.len(), 2);
+    made.clear(NetId(0));
+    assert!(rt; made.conns(NetId(0)).is_empty());
     Ok(())
 }

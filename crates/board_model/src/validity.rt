@@ -63,12 +63,6 @@ fn has_layers(parts: &BoardParts) -> bool
     are_names(MAX_CLASSES, parts.classes.as_slice())
 }
 
-fn are_rules(rules: &[Rule]) -> bool
-    ensures { IsTrue result ↔ All IsRule rules.now }
-{
-    rules.iter().all(|rule| is_rule(*rule))
-}
-
 fn has_rules(parts: &BoardParts) -> bool
     requires layers { length parts.now.layers ≤ MAX_LAYERS }
     requires classes { length parts.now.classes ≤ MAX_CLASSES }
@@ -77,19 +71,14 @@ fn has_rules(parts: &BoardParts) -> bool
     if parts.rules.len() != parts.layers.len() * parts.classes.len() {
         return false;
     }
-    are_rules(parts.rules.as_slice())
+    let rules = parts.rules.as_slice();
+    rules.iter().all(|rule| is_rule(*rule))
 }
 
 fn are_kinds(layers: usize, kinds: &[ViaKind]) -> bool
     ensures { IsTrue result ↔ All (IsKind layers) kinds.now }
 {
     kinds.iter().all(|kind| is_kind(layers, *kind))
-}
-
-fn are_measures(measures: &[i32]) -> bool
-    ensures { IsTrue result ↔ All IsMeasure measures.now }
-{
-    measures.iter().all(|measure| is_measure(*measure))
 }
 
 fn has_kinds(parts: &BoardParts) -> bool
@@ -108,13 +97,8 @@ fn has_kinds(parts: &BoardParts) -> bool
     if parts.pads.len() != parts.kinds.len() * parts.classes.len() {
         return false;
     }
-    are_measures(parts.pads.as_slice())
-}
-
-fn are_classes(classes: usize, ids: &[ClassId]) -> bool
-    ensures { IsTrue result ↔ All (λ (c : ClassId). c.0 < classes) ids.now }
-{
-    ids.iter().all(|id| (id.0 as usize) < classes)
+    let pads = parts.pads.as_slice();
+    pads.iter().all(|pad| is_measure(*pad))
 }
 
 fn has_nets(parts: &BoardParts) -> bool
@@ -126,19 +110,15 @@ fn has_nets(parts: &BoardParts) -> bool
     if parts.net_classes.len() != parts.net_names.len() {
         return false;
     }
-    are_classes(parts.classes.len(), parts.net_classes.as_slice())
+    let classes = parts.classes.len();
+    let ids = parts.net_classes.as_slice();
+    ids.iter().all(|id| (id.0 as usize) < classes)
 }
 
 fn are_blocks(parts: &BoardParts, blocks: &[Block]) -> bool
     ensures { IsTrue result ↔ All (IsBlock parts.now) blocks.now }
 {
     blocks.iter().all(|block| is_block(parts, *block))
-}
-
-fn are_pins(parts: &BoardParts, pins: &[Pin]) -> bool
-    ensures { IsTrue result ↔ All (IsPin parts.now) pins.now }
-{
-    pins.iter().all(|pin| is_pin(parts, *pin))
 }
 
 fn has_areas(parts: &BoardParts) -> bool
@@ -153,5 +133,6 @@ fn has_areas(parts: &BoardParts) -> bool
     if !are_blocks(parts, parts.blocks.as_slice()) {
         return false;
     }
-    are_pins(parts, parts.pins.as_slice())
+    let pins = parts.pins.as_slice();
+    pins.iter().all(|pin| is_pin(parts, *pin))
 }

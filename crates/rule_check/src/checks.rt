@@ -1,9 +1,10 @@
 //! All violations of a state.
 
-ghost use Rattle.std.specs.Prelude.{◌≡◌, ◌++◌, [], length, All, IfOk, OnOk};
+ghost use Rattle.std.specs.Prelude.{◌≡◌, ◌++◌, length, All, IfOk, OnOk};
 ghost use Rattle.board_model.specs.Known.{IsKnown};
 ghost use Rattle.board_model.specs.Shapes.{state_shapes};
 ghost use Rattle.board_model.specs.Violations.{violations_of};
+ghost use Rattle.board_model.specs.WellFormed.{AreWellFormed};
 ghost use Rattle.rule_check.specs.Known.{NamesKnown};
 
 use crate::outlines::push_outline;
@@ -13,10 +14,10 @@ use geo_rect::{List, NoMemory};
 use std::alloc::Global;
 
 /// The violations of the board with the connections that are made, in their order: for each shape
-/// first its outline, then each later shape that it is too close to. No net has a connection.
+/// first its outline, then each later shape that it is too close to. Each connection is well formed.
 pub fn violations(alloc: Global, board: &Board, made: &Made) -> Result<List<Violation>, NoMemory>
     requires nets { length made.now.lists ≡ length board.now.parts.net_names }
-    requires none_made { All (λ conns. conns ≡ []) made.now.lists }
+    requires well_formed { AreWellFormed board.now.parts made.now.lists }
     ensures exact { IfOk result (λ found.
         found ≡ violations_of board.now.parts (state_shapes board.now.parts made.now.lists)) }
     ensures known { IfOk result (λ found. All (NamesKnown board.now.parts) found) }

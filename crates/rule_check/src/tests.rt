@@ -1,6 +1,9 @@
+ghost use Rattle.std.specs.Prelude.{◌≡◌, ◌<◌, length, IfOk};
+ghost use Rattle.board_model.specs.WellFormed.{AreWellFormed};
+
 use crate::checks::violations;
-use board_model::{Block, Board, BoardParts, Made, Owned, Pin, Rule, Violation};
-use geo_rect::{ClassId, LayerId, List, NetId, NoMemory, Rect, Text};
+use board_model::{Block, Board, BoardParts, Conn, Leg, Made, Owned, Pin, Rule, Violation};
+use geo_rect::{ClassId, LayerId, List, NetId, NoMemory, Node, Rect, Text};
 use std::alloc::Global;
 use std::process::Abort;
 use std::test::Fail;
@@ -116,5 +119,50 @@ fn two_pins_alone(rt: HostRuntime) -> Result<(), Fail> {
     let list = found(&rt, rt.alloc(), &[], &[a, b, pin(1, 30, 9)])?;
     let expected = [Violation::Close(TOP, named(a), named(b))];
     assert_eq!(rt; list.as_slice(), expected.as_slice());
+    Ok(())
+}
+
+/// One connection of net a, by a wire from (0, 5) to (5, 5).
+fn wire_from_the_edge(alloc: Global, board: &Board) -> Result<Made, NoMemory>
+    requires { 0 < length board.now.parts.net_names }
+    ensures nets { IfOk result (λ made. length made.lists ≡ length board.now.parts.net_names) }
+    ensures well_formed { IfOk result (λ made. AreWellFormed board.now.parts made.lists) }
+{
+    let start = Node {
+        x: 0,
+        y: 5,
+        layer: TOP,
+    };
+    let end = Node {
+        x: 5,
+        y: 5,
+        layer: TOP,
+    };
+    let legs = List::from_slice(alloc, &[Leg::Wire(end)])?;
+    let mut made = Made::none(alloc, board)?;
+    made.append(
+        NetId(0),
+        Conn {
+            start,
+            legs,
+            cost: 5,
+        },
+    )?;
+    Ok(made)
+}
+
+#[test]
+fn a_wire_leaves_the_board(rt: HostRuntime) -> Result<(), Fail> {
+    let alloc = rt.alloc();
+    let parts = small_board(alloc, List::new(alloc), List::new(alloc))?;
+    let board = build(&rt, alloc, parts)?;
+    assert_eq!(rt; board.nets(), 2);
+    let made = wire_from_the_edge(alloc, &board)?;
+    let list = violations(alloc, &board, &made)?;
+    let wire = Owned {
+        owner: Some(NetId(0)),
+        area: Rect::new(-1, 4, 6, 6),
+    };
+    assert_eq!(rt; list.as_slice(), [Violation::Outline(TOP, wire)].as_slice());
     Ok(())
 }

@@ -1,4 +1,4 @@
-use Rattle.std.proofs.Common.{◌≡◌, ◌==◌, ◌++◌, ◌∙◌, Bool, List, filter, take, ap, sym, subst}
+use Rattle.std.proofs.Common.{◌==◌, ◌++◌, ◌∙◌, Bool, List, filter, take, ap, sym}
 use Rattle.std.specs.List.{flat_map}
 use Rattle.board_model.specs.Boxes.{pin_boxes}
 use Rattle.board_model.specs.declared.parts.Pin.{Pin}
