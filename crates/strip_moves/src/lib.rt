@@ -14,6 +14,8 @@ mod net_planes;
 mod spans;
 mod starts;
 
+pub use labels::admits;
 pub use laws::planes_are_a_ground;
 pub use moves::moves_of;
+pub use net_planes::{vias_of, wires_of};
 pub use starts::starts_of;

@@ -4,5 +4,4 @@ pub mod GoodLegs
 pub mod Items
 pub mod Lines
 pub mod Openings
-pub mod Regions
 pub mod Units

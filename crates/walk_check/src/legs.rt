@@ -10,13 +10,14 @@ ghost use Rattle.walk_check.specs.Clear.{IsClearWire};
 ghost use Rattle.walk_check.specs.Corners.{HasPlaces, IsGoodLeg, AreGoodLegs, IsFirstBadLeg};
 ghost use Rattle.strip_moves.specs.Grounds.{ground_of};
 
-use crate::grounds::{is_open_in, wire_ground};
 use crate::nodes::is_clear_via;
+use crate::open_areas::is_open_in;
 use board_model::{Board, Conn, Leg, ViaKind};
 use geo_rect::{Interval, KindId, LayerId, NetId, NoMemory, Node, Rect};
 use plane_core::Plane;
 use plane_set::PlaneSet;
 use std::alloc::Global;
+use strip_moves::wires_of;
 
 /// From the lower of two coordinates to the higher.
 fn stretch(u: i32, v: i32) -> Interval
@@ -106,7 +107,7 @@ fn is_clear_wire<P: Plane>(
     requires layer { to.layer.0 < length board.now.parts.layers }
     ensures { IfOk result (λ clear. IsTrue clear ↔ IsClearWire (ground_of board.now.parts planes.now net) from to) }
 {
-    let plane = wire_ground(board, planes, net, to.layer);
+    let plane = wires_of(board, planes, net, to.layer);
     is_open_in(alloc, plane, net, segment(from, to))
 }
 

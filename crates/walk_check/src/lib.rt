@@ -5,10 +5,10 @@
 
 mod connections;
 mod costs;
-mod grounds;
 mod laws;
 mod legs;
 mod nodes;
+mod open_areas;
 
 pub use connections::bad_corner;
 pub use laws::a_connection_has_no_bad_corner;

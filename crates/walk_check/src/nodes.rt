@@ -9,11 +9,12 @@ ghost use Rattle.walk_check.specs.Clear.{IsClearVia, IsIn};
 ghost use Rattle.walk_check.specs.Corners.{IsGoodStart};
 ghost use Rattle.strip_moves.specs.Grounds.{ground_of};
 
-use crate::grounds::{has_point, is_open_at, via_ground, wire_ground};
+use crate::open_areas::{has_point, is_open_at};
 use board_model::Board;
 use geo_rect::{KindId, NetId, Node, Point, Spot};
 use plane_core::Plane;
 use plane_set::PlaneSet;
+use strip_moves::{vias_of, wires_of};
 
 /// Where the node stands on its layer.
 pub fn place_of(v: Node) -> Point
@@ -31,7 +32,7 @@ pub fn is_passable_node<P: Plane>(board: &Board, planes: &PlaneSet<P>, net: NetI
     if v.layer.0 >= board.layers() {
         return false;
     }
-    is_open_at(wire_ground(board, planes, net, v.layer), net, place_of(v))
+    is_open_at(wires_of(board, planes, net, v.layer), net, place_of(v))
 }
 
 /// Whether the net may pass from layer to layer at the point, by a via of a kind of the board.
@@ -47,7 +48,7 @@ fn is_passable_via<P: Plane>(
     requires kind { kind.0 < length board.now.parts.kinds }
     ensures { IsTrue result ↔ IsPassableVia (ground_of board.now.parts planes.now net) kind p }
 {
-    is_open_at(via_ground(board, planes, net, kind), net, p)
+    is_open_at(vias_of(board, planes, net, kind), net, p)
 }
 
 /// Whether the net may pass a via of a kind of the board, and the node in which it ends.

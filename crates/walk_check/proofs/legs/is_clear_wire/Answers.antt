@@ -7,10 +7,10 @@ use Rattle.walk_check.proofs.legs.is_clear_wire.Goals as goal
 
 pub returns : goal.returns
 returns g c =
-    let region = g.P.Plane.region c.wire_ground-plane.result.now in
-    let strips = g.P.Plane.strips c.wire_ground-plane.result.now in
+    let region = g.P.Plane.region c.wires_of-plane.result.now in
+    let strips = g.P.Plane.strips c.wires_of-plane.result.now in
     let ground = ground_of c.args.board.now.parts c.args.planes.now c.args.net in
-    let same = wire_open ground region strips c.args.from c.args.to c.segment.result c.wire_ground-plane.ensures.region c.wire_ground-plane.ensures.strips c.requires.layer c.segment.ensures in
+    let same = wire_open ground region strips c.args.from c.args.to c.segment.result c.wires_of-plane.ensures.region c.wires_of-plane.ensures.strips c.requires.layer c.segment.ensures in
     IfOk-weaker c.is_open_in.result
     (λ x. IsTrue x ↔ IsOpenIn region strips c.args.net c.segment.result)
     (λ x. IsTrue x ↔ IsClearWire ground c.args.from c.args.to)

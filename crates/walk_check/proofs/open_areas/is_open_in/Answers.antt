@@ -9,7 +9,7 @@ use Rattle.plane_core.specs.declared.strips.Strip.{Strip}
 use Rattle.plane_core.specs.Choice.{IsChoice, Meets}
 use Rattle.plane_core.specs.Strips.{IsHeld}
 use Rattle.walk_check.proofs.Openings.{not_inside, open_all, each_open}
-use Rattle.walk_check.proofs.grounds.is_open_in.Goals as goal
+use Rattle.walk_check.proofs.open_areas.is_open_in.Goals as goal
 
 pub returns-then-not-lies_in : goal.returns-then-not-lies_in
 returns-then-not-lies_in g c =

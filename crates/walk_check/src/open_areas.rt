@@ -1,50 +1,15 @@
-//! The planes on which a net walks.
+//! What of a plane is open to a net.
 
-ghost use Rattle.std.specs.Prelude.{◌≡◌, ◌<◌, ◌↔◌, length, All, IfOk, IsTrue};
+ghost use Rattle.std.specs.Prelude.{◌↔◌, All, IfOk, IsTrue};
 ghost use Rattle.geo_rect.specs.Axis.{HasNumber, LiesWithin};
 ghost use Rattle.geo_rect.specs.Plane.{columns, rows, HasPoint, LiesIn};
 ghost use Rattle.board_model.specs.Labels.{Admits};
-ghost use Rattle.plane_set.specs.Standing.{HasPlanes};
 ghost use Rattle.walk_check.specs.Clear.{IsOpenAt, IsOpenIn};
-ghost use Rattle.strip_moves.specs.Grounds.{ground_of};
 
-use board_model::Board;
-use geo_rect::{Interval, KindId, Label, LayerId, NetId, NoMemory, Point, Rect};
+use geo_rect::{Interval, NetId, NoMemory, Point, Rect};
 use plane_core::{Plane, Strip};
-use plane_set::PlaneSet;
 use std::alloc::Global;
-
-/// The plane on which the net's wires go on the layer.
-pub fn wire_ground<'a, P: Plane>(
-    board: &Board,
-    planes: &'a PlaneSet<P>,
-    net: NetId,
-    l: LayerId,
-) -> &'a P
-    requires planes { HasPlanes board.now.parts planes.now }
-    requires net { net.0 < length board.now.parts.net_names }
-    requires layer { l.0 < length board.now.parts.layers }
-    ensures region { P.region result.now ≡ (ground_of board.now.parts planes.now net).region }
-    ensures strips { P.strips result.now ≡ (ground_of board.now.parts planes.now net).wire_strips l }
-{
-    planes.wire(l, board.class_of(net))
-}
-
-/// The plane in which the net's vias of the kind stand.
-pub fn via_ground<'a, P: Plane>(
-    board: &Board,
-    planes: &'a PlaneSet<P>,
-    net: NetId,
-    k: KindId,
-) -> &'a P
-    requires planes { HasPlanes board.now.parts planes.now }
-    requires net { net.0 < length board.now.parts.net_names }
-    requires kind { k.0 < length board.now.parts.kinds }
-    ensures region { P.region result.now ≡ (ground_of board.now.parts planes.now net).region }
-    ensures strips { P.strips result.now ≡ (ground_of board.now.parts planes.now net).via_strips k }
-{
-    planes.via(k, board.class_of(net))
-}
+use strip_moves::admits;
 
 /// Whether the point lies in the columns of `r`.
 fn has_column(r: Rect, p: Point) -> bool
@@ -109,17 +74,6 @@ fn lies_in(a: Rect, b: Rect) -> bool
         return false;
     }
     true
-}
-
-/// Whether the net may pass what has this label.
-fn admits(label: Label, net: NetId) -> bool
-    ensures { IsTrue result ↔ Admits label net }
-{
-    match label {
-        Label::Free => true,
-        Label::One(owner) => owner.0 == net.0,
-        Label::Many => false,
-    }
 }
 
 /// Whether the plane has the point, and its label there admits the net.
