@@ -18,7 +18,7 @@ use geo_rect::NoMemory;
 use std::alloc::Global;
 
 /// Why a line was not read.
-#[derive(Clone, Copy, Debug)]
+#[derive(Clone, Copy)]
 pub enum LineError {
     Refused(RefusalKind),
     NoMemory,

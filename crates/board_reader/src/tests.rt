@@ -1,49 +1,141 @@
 use super::*;
 use crate::connector::CONNECTOR;
+use board_model::Command;
 use std::alloc::{AllocError, Global};
 use std::test::Fail;
 
-/// A small board, line by line.
-const LINES: [&str; 10] = [
-    "board 1 demo 40 20",
-    "layer top",
-    "class sig",
-    "rule top sig 1 2",
-    "block top 18 0 22 14",
-    "net a sig",
-    "pin a 4 9 6 11 top top",
-    "pin a 34 9 36 11 top top",
-    "end",
-    "rules",
-];
+/// A small board.
+const BOARD: &str = "board 1 demo 40 20
+layer top
+class sig
+rule top sig 1 2
+block top 18 0 22 14
+net a sig
+pin a 4 9 6 11 top top
+pin a 34 9 36 11 top top
+end
+rules";
 
-/// The lines with line `number`, counted from 1, replaced by a text, which may be of no or more lines.
-fn changed(alloc: Global, number: usize, text: &str) -> Result<Vec<u8>, AllocError> {
+/// The cases, one a line: the first and the last of the lines of the small board that a text stands
+/// for, the line and the kind of the refusal, or zeros where the text is read, and the text, in which
+/// each semicolon stands for a line feed.
+const CASES: &str = "4 4 8 8 
+8 8 8 4 pin a 34 9 41 11 top top;
+4 4 4 4 rule top sig 1 0;
+1 1 1 4 board 1 demo 1048577 20;
+8 8 8 11 pin a 36 9 34 11 top top;
+3 3 3 6 layer top;
+7 7 7 3 pin a 4 9 -6 11 top top;
+10 10 10 7 net b sig;
+10 10 10 2 route a;
+10 10 0 0 
+5 5 0 0 # any \u{e9} bytes;; \t;
+5 5 5 1 \r# not at the start;
+5 5 5 1 lay\u{e9}r;
+5 5 5 2 rules now;
+5 5 5 7 board x demo 40 20;
+5 5 5 3 block low x 0 22 14;
+8 8 8 5 net a power;
+5 5 5 6 rule top sig 0 0;
+5 5 5 4 block top 41 0 22 14;
+5 5 5 4 viakind v top top 65536;
+5 5 5 11 viakind v top top 1;
+1 1 0 0 board 01 demo 00000000000000000040 20;
+1 1 1 3 board 1 demo 000000000000000000040 20;
+1 1 1 4 board 1 demo 99999999999999999999 20;
+1 1 1 4 board 2 demo 40 20;
+1 1 1 3 board one demo 40 20;
+6 6 0 0 net a sig;net aaaaaaaaaaaaaaaaaaaaaaaaaaaaaaaaaaaaaaaaaaaaaaaaaaaaaaaaaaaaaaaa sig;
+6 6 7 2 net a sig;net aaaaaaaaaaaaaaaaaaaaaaaaaaaaaaaaaaaaaaaaaaaaaaaaaaaaaaaaaaaaaaaaa sig;
+2 2 0 0 layer top\r;
+1 10 1 9 
+1 10 2 9 \r
+1 10 3 9 ;;
+1 10 1 1 \r\r;
+1 10 3 9 board 1 b 9 9;layer top
+1 10 10 8 board 1 b 9 9;layer a;layer b;layer c;layer d;layer e;layer f;layer g;layer h;end;
+1 10 10 10 board 1 b 9 9;layer a;layer b;layer c;layer d;layer e;layer f;layer g;layer h;layer i;
+1 10 6 8 board 1 b 9 9;class a;class b;class c;class d;end;
+1 10 6 10 board 1 b 9 9;class a;class b;class c;class d;class e;
+1 10 12 9 board 1 b 9 9;layer a;layer b;viakind a a b 0;viakind b a b 0;viakind c a b 0;viakind d a b 0;viakind e a b 0;viakind f a b 0;viakind g a b 0;viakind h b a 0;
+1 10 12 10 board 1 b 9 9;layer a;layer b;viakind a a b 0;viakind b a b 0;viakind c a b 0;viakind d a b 0;viakind e a b 0;viakind f a b 0;viakind g a b 0;viakind h b a 0;viakind i a b 0;
+1 10 12 11 board 1 b 9 9;layer a;layer b;viakind a a b 0;viakind b a b 0;viakind c a b 0;viakind d a b 0;viakind e a b 0;viakind f a b 0;viakind g a b 0;viakind h b a 0;viakind i a a 0;
+1 10 1 7 layer a;layer b;layer c;layer d;layer e;layer f;layer g;layer h;
+1 10 1 7 viakind a a b 0;viakind b a b 0;viakind c a b 0;viakind d a b 0;viakind e a b 0;viakind f a b 0;viakind g a b 0;viakind h b a 0;
+1 10 2 7 board 1 b 9 9;board 1 b 9 9;
+9 10 9 9 
+9 10 0 0 end
+9 10 0 0 end;
+9 10 10 2 end;route a;
+10 10 0 0 strips top sig;rules;strips top sig;
+5 5 5 7 strips top sig;
+5 5 5 7 strips low power;
+10 10 10 5 strips low sig;
+10 10 10 5 strips top power;
+10 10 10 5 strips sig top;
+10 10 10 2 strips;
+10 10 10 2 strips top;
+10 10 10 2 strips top sig 1;
+10 10 11 5 strips top sig;strips a sig;";
+
+/// Adds a text whose semicolons stand for line feeds.
+fn add(bytes: &mut Vec<u8>, text: &str) -> Result<(), AllocError> {
+    for byte in text.bytes() {
+        bytes.push(if byte == b';' { b'\n' } else { byte })?;
+    }
+    Ok(())
+}
+
+/// The small board with a text for the lines `first` to `last`, counted from 1.
+fn changed(alloc: Global, first: u64, last: u64, text: &str) -> Result<Vec<u8>, AllocError> {
     let mut bytes = Vec::new(alloc);
-    for (index, line) in LINES.iter().enumerate() {
-        if index + 1 == number {
-            bytes.extend_from_slice(text.as_bytes())?;
-        } else {
-            bytes.extend_from_slice(line.as_bytes())?;
-            bytes.extend_from_slice(b"\n")?;
+    let mut number = 0;
+    for line in BOARD.lines() {
+        number += 1;
+        if number == first {
+            add(&mut bytes, text)?;
+        }
+        if number < first || last < number {
+            add(&mut bytes, line)?;
+            bytes.push(b'\n')?;
         }
     }
     Ok(bytes)
 }
 
+/// The number that the next word of a case is.
+fn number(word: Option<&str>) -> Result<u64, Fail> {
+    Ok(word.ok_or("a case has four numbers")?.parse::<u64>()?)
+}
+
 /// Line and kind of the refusal, and zeros where the text is read.
-fn refusal_of(alloc: Global, bytes: &[u8]) -> Result<(u64, u8), Fail> {
+fn refusal_of(alloc: Global, bytes: &[u8]) -> Result<(u64, u64), Fail> {
     match read_input(alloc, bytes) {
         Ok(_) => Ok((0, 0)),
-        Err(ReadInput::Refused(refusal)) => Ok((refusal.line, refusal.kind.number())),
+        Err(ReadInput::Refused(refusal)) => Ok((refusal.line, u64::from(refusal.kind.number()))),
         Err(ReadInput::NoMemory) => Err("no memory".into()),
     }
 }
 
 #[test]
+fn tells_the_first_line_and_kind(rt: HostRuntime) -> Result<(), Fail> {
+    for case in CASES.split('\n') {
+        let mut words = case.splitn(5, ' ');
+        let first = number(words.next())?;
+        let last = number(words.next())?;
+        let line = number(words.next())?;
+        let kind = number(words.next())?;
+        let text = words.next().ok_or("a case has a text")?;
+        let bytes = changed(rt.alloc(), first, last, text)?;
+        assert_eq!(rt; refusal_of(rt.alloc(), &bytes)?, (line, kind), "{case}");
+    }
+    Ok(())
+}
+
+#[test]
 fn reads_a_board(rt: HostRuntime) -> Result<(), Fail> {
-    let text = changed(rt.alloc(), 10, "rules\n")?;
-    let Ok(input) = read_input(rt.alloc(), &text) else {
+    let bytes = changed(rt.alloc(), 10, 10, "rules;strips top sig;")?;
+    let Ok(input) = read_input(rt.alloc(), &bytes) else {
         return Err("the text is read".into());
     };
     assert_eq!(rt; input.board.name(), "demo");
@@ -51,154 +143,18 @@ fn reads_a_board(rt: HostRuntime) -> Result<(), Fail> {
     assert_eq!(rt; input.board.height(), 20);
     assert_eq!(rt; input.board.pins().len(), 2);
     assert_eq!(rt; input.board.blocks().len(), 1);
-    assert_eq!(rt; input.commands.len(), 1);
-    Ok(())
-}
-
-#[test]
-fn refuses_changed_lines(rt: HostRuntime) -> Result<(), Fail> {
-    let cases: [(usize, &str, u64, u8); 12] = [
-        (4, "", 8, 8),
-        (8, "pin a 34 9 41 11 top top\n", 8, 4),
-        (4, "rule top sig 1 0\n", 4, 4),
-        (1, "board 1 demo 1048577 20\n", 1, 4),
-        (8, "pin a 36 9 34 11 top top\n", 8, 11),
-        (3, "layer top\n", 3, 6),
-        (7, "pin a 4 9 -6 11 top top\n", 7, 3),
-        (10, "net b sig\n", 10, 7),
-        (10, "route a\n", 10, 2),
-        (10, "", 0, 0),
-        (5, "# any \u{e9} bytes\n\n \t\n", 0, 0),
-        (5, "\r# not at the start\n", 5, 1),
-    ];
-    for (number, text, line, kind) in cases {
-        let bytes = changed(rt.alloc(), number, text)?;
-        assert_eq!(rt; refusal_of(rt.alloc(), &bytes)?, (line, kind), "{text}");
-    }
-    Ok(())
-}
-
-#[test]
-fn tells_the_first_kind(rt: HostRuntime) -> Result<(), Fail> {
-    let cases: [(usize, &str, u64, u8); 9] = [
-        (5, "lay\u{e9}r\n", 5, 1),
-        (5, "rules now\n", 5, 2),
-        (5, "board x demo 40 20\n", 5, 7),
-        (5, "block low x 0 22 14\n", 5, 3),
-        (8, "net a power\n", 8, 5),
-        (5, "rule top sig 0 0\n", 5, 6),
-        (5, "block top 41 0 22 14\n", 5, 4),
-        (5, "viakind v top top 65536\n", 5, 4),
-        (5, "viakind v top top 1\n", 5, 11),
-    ];
-    for (number, text, line, kind) in cases {
-        let bytes = changed(rt.alloc(), number, text)?;
-        assert_eq!(rt; refusal_of(rt.alloc(), &bytes)?, (line, kind), "{text}");
-    }
-    Ok(())
-}
-
-#[test]
-fn numbers_names_and_ends(rt: HostRuntime) -> Result<(), Fail> {
-    let cases: [(usize, &str, u64, u8); 8] = [
-        (1, "board 01 demo 00000000000000000040 20\n", 0, 0),
-        (1, "board 1 demo 000000000000000000040 20\n", 1, 3),
-        (1, "board 1 demo 99999999999999999999 20\n", 1, 4),
-        (1, "board 2 demo 40 20\n", 1, 4),
-        (1, "board one demo 40 20\n", 1, 3),
-        (
-            6,
-            "net a sig\nnet aaaaaaaaaaaaaaaaaaaaaaaaaaaaaaaaaaaaaaaaaaaaaaaaaaaaaaaaaaaaaaaa sig\n",
-            0,
-            0,
-        ),
-        (
-            6,
-            "net a sig\nnet aaaaaaaaaaaaaaaaaaaaaaaaaaaaaaaaaaaaaaaaaaaaaaaaaaaaaaaaaaaaaaaaa sig\n",
-            7,
-            2,
-        ),
-        (2, "layer top\r\n", 0, 0),
-    ];
-    for (number, text, line, kind) in cases {
-        let bytes = changed(rt.alloc(), number, text)?;
-        assert_eq!(rt; refusal_of(rt.alloc(), &bytes)?, (line, kind), "{text}");
-    }
-    Ok(())
-}
-
-#[test]
-fn whole_texts(rt: HostRuntime) -> Result<(), Fail> {
-    let board = "board 1 b 9 9\n";
-    let layers = "layer a\nlayer b\nlayer c\nlayer d\nlayer e\nlayer f\nlayer g\nlayer h\n";
-    let classes = "class a\nclass b\nclass c\nclass d\n";
-    let kinds =
-        "viakind a a b 0\nviakind b a b 0\nviakind c a b 0\nviakind d a b 0\nviakind e a b 0\nviakind f a b 0\nviakind g a b 0\nviakind h b a 0\n";
-    let cases: [(&str, &str, &str, u64, u8); 13] = [
-        ("", "", "", 1, 9),
-        ("", "", "\r", 2, 9),
-        ("", "", "\n\n", 3, 9),
-        ("", "", "\r\r\n", 1, 1),
-        (board, "", "layer top", 3, 9),
-        (board, layers, "end\n", 10, 8),
-        (board, layers, "layer i\n", 10, 10),
-        (board, classes, "end\n", 6, 8),
-        (board, classes, "class e\n", 6, 10),
-        (board, "layer a\nlayer b\n", kinds, 12, 9),
-        (layers, "", "", 1, 7),
-        (kinds, "", "", 1, 7),
-        (board, board, "", 2, 7),
-    ];
-    for (one, two, three, line, kind) in cases {
-        let mut bytes = Vec::new(rt.alloc());
-        bytes.extend_from_slice(one.as_bytes())?;
-        bytes.extend_from_slice(two.as_bytes())?;
-        bytes.extend_from_slice(three.as_bytes())?;
-        assert_eq!(rt;
-            refusal_of(rt.alloc(), &bytes)?,
-            (line, kind),
-            "{one}{two}{three}"
-        );
-    }
-    let cases: [(&str, u64, u8); 2] = [
-        ("viakind i a b 0\n", 12, 10),
-        ("viakind i a a 0\n", 12, 11),
-    ];
-    for (last, line, kind) in cases {
-        let mut bytes = Vec::new(rt.alloc());
-        bytes.extend_from_slice(b"board 1 b 9 9\nlayer a\nlayer b\n")?;
-        bytes.extend_from_slice(kinds.as_bytes())?;
-        bytes.extend_from_slice(last.as_bytes())?;
-        assert_eq!(rt; refusal_of(rt.alloc(), &bytes)?, (line, kind), "{last}");
-    }
-    Ok(())
-}
-
-#[test]
-fn cut_texts(rt: HostRuntime) -> Result<(), Fail> {
-    let mut bytes = Vec::new(rt.alloc());
-    for line in &LINES[..8] {
-        bytes.extend_from_slice(line.as_bytes())?;
-        bytes.extend_from_slice(b"\n")?;
-    }
-    assert_eq!(rt; refusal_of(rt.alloc(), &bytes)?, (9, 9));
-    bytes.extend_from_slice(b"end")?;
-    assert_eq!(rt; refusal_of(rt.alloc(), &bytes)?, (0, 0));
-    bytes.extend_from_slice(b"\n")?;
-    assert_eq!(rt; refusal_of(rt.alloc(), &bytes)?, (0, 0));
-    bytes.extend_from_slice(b"route a\n")?;
-    assert_eq!(rt; refusal_of(rt.alloc(), &bytes)?, (10, 2));
+    assert_eq!(rt; input.commands.len(), 2);
     Ok(())
 }
 
 #[test]
 fn reads_lines_with_carriage_returns(rt: HostRuntime) -> Result<(), Fail> {
     let mut bytes = Vec::new(rt.alloc());
-    for byte in CONNECTOR.as_bytes() {
-        if *byte == b'\n' {
+    for byte in CONNECTOR.bytes() {
+        if byte == b'\n' {
             bytes.push(b'\r')?;
         }
-        bytes.push(*byte)?;
+        bytes.push(byte)?;
     }
     let Ok(input) = read_input(rt.alloc(), &bytes) else {
         return Err("the text is read".into());
