@@ -101,7 +101,7 @@ after_form d form.Pin ws = record d {
 after_form d form.End ws = record d { stage = Commands }
 after_form d form.Rules ws = record d { commands = d.commands ++ command.Rules ∷ [] }
 after_form d form.Strips ws = record d {
-  commands = d.commands ++ command.Strips (record { 0 = layer_of d (word ws 1) }) (record { 0 = class_of d (word ws 2) }) ∷ []
+  commands = d.commands ++ command.Strips (record { 0 = layer_of d (word ws 1) }) (record { 0 = class_of d (word ws 2) }) ∷ [];
 }
 
 -- the board of what the lines say: a rule for each layer and in it each class, a pad for each kind and in it each class

@@ -123,10 +123,7 @@ static PIN: [Place; 7] = [
     Place::KnownName(Sort::Layer),
 ];
 
-static STRIPS: [Place; 2] = [
-    Place::KnownName(Sort::Layer),
-    Place::KnownName(Sort::Class),
-];
+static STRIPS: [Place; 2] = [Place::KnownName(Sort::Layer), Place::KnownName(Sort::Class)];
 
 static ALONE: [Place; 0] = [];
 

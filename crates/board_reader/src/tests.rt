@@ -4,79 +4,81 @@ use board_model::Command;
 use std::alloc::{AllocError, Global};
 use std::test::Fail;
 
-/// A small board.
-const BOARD: &str = "board 1 demo 40 20
-layer top
-class sig
-rule top sig 1 2
-block top 18 0 22 14
-net a sig
-pin a 4 9 6 11 top top
-pin a 34 9 36 11 top top
-end
-rules";
+/// A small board, line by line.
+const LINES: [&str; 10] = [
+    "board 1 demo 40 20",
+    "layer top",
+    "class sig",
+    "rule top sig 1 2",
+    "block top 18 0 22 14",
+    "net a sig",
+    "pin a 4 9 6 11 top top",
+    "pin a 34 9 36 11 top top",
+    "end",
+    "rules",
+];
 
-/// The cases, one a line: the first and the last of the lines of the small board that a text stands
-/// for, the line and the kind of the refusal, or zeros where the text is read, and the text, in which
-/// each semicolon stands for a line feed.
-const CASES: &str = "4 4 8 8 
-8 8 8 4 pin a 34 9 41 11 top top;
-4 4 4 4 rule top sig 1 0;
-1 1 1 4 board 1 demo 1048577 20;
-8 8 8 11 pin a 36 9 34 11 top top;
-3 3 3 6 layer top;
-7 7 7 3 pin a 4 9 -6 11 top top;
-10 10 10 7 net b sig;
-10 10 10 2 route a;
-10 10 0 0 
-5 5 0 0 # any \u{e9} bytes;; \t;
-5 5 5 1 \r# not at the start;
-5 5 5 1 lay\u{e9}r;
-5 5 5 2 rules now;
-5 5 5 7 board x demo 40 20;
-5 5 5 3 block low x 0 22 14;
-8 8 8 5 net a power;
-5 5 5 6 rule top sig 0 0;
-5 5 5 4 block top 41 0 22 14;
-5 5 5 4 viakind v top top 65536;
-5 5 5 11 viakind v top top 1;
-1 1 0 0 board 01 demo 00000000000000000040 20;
-1 1 1 3 board 1 demo 000000000000000000040 20;
-1 1 1 4 board 1 demo 99999999999999999999 20;
-1 1 1 4 board 2 demo 40 20;
-1 1 1 3 board one demo 40 20;
-6 6 0 0 net a sig;net aaaaaaaaaaaaaaaaaaaaaaaaaaaaaaaaaaaaaaaaaaaaaaaaaaaaaaaaaaaaaaaa sig;
-6 6 7 2 net a sig;net aaaaaaaaaaaaaaaaaaaaaaaaaaaaaaaaaaaaaaaaaaaaaaaaaaaaaaaaaaaaaaaaa sig;
-2 2 0 0 layer top\r;
-1 10 1 9 
-1 10 2 9 \r
-1 10 3 9 ;;
-1 10 1 1 \r\r;
-1 10 3 9 board 1 b 9 9;layer top
-1 10 10 8 board 1 b 9 9;layer a;layer b;layer c;layer d;layer e;layer f;layer g;layer h;end;
-1 10 10 10 board 1 b 9 9;layer a;layer b;layer c;layer d;layer e;layer f;layer g;layer h;layer i;
-1 10 6 8 board 1 b 9 9;class a;class b;class c;class d;end;
-1 10 6 10 board 1 b 9 9;class a;class b;class c;class d;class e;
-1 10 12 9 board 1 b 9 9;layer a;layer b;viakind a a b 0;viakind b a b 0;viakind c a b 0;viakind d a b 0;viakind e a b 0;viakind f a b 0;viakind g a b 0;viakind h b a 0;
-1 10 12 10 board 1 b 9 9;layer a;layer b;viakind a a b 0;viakind b a b 0;viakind c a b 0;viakind d a b 0;viakind e a b 0;viakind f a b 0;viakind g a b 0;viakind h b a 0;viakind i a b 0;
-1 10 12 11 board 1 b 9 9;layer a;layer b;viakind a a b 0;viakind b a b 0;viakind c a b 0;viakind d a b 0;viakind e a b 0;viakind f a b 0;viakind g a b 0;viakind h b a 0;viakind i a a 0;
-1 10 1 7 layer a;layer b;layer c;layer d;layer e;layer f;layer g;layer h;
-1 10 1 7 viakind a a b 0;viakind b a b 0;viakind c a b 0;viakind d a b 0;viakind e a b 0;viakind f a b 0;viakind g a b 0;viakind h b a 0;
-1 10 2 7 board 1 b 9 9;board 1 b 9 9;
-9 10 9 9 
-9 10 0 0 end
-9 10 0 0 end;
-9 10 10 2 end;route a;
-10 10 0 0 strips top sig;rules;strips top sig;
-5 5 5 7 strips top sig;
-5 5 5 7 strips low power;
-10 10 10 5 strips low sig;
-10 10 10 5 strips top power;
-10 10 10 5 strips sig top;
-10 10 10 2 strips;
-10 10 10 2 strips top;
-10 10 10 2 strips top sig 1;
-10 10 11 5 strips top sig;strips a sig;";
+/// The cases, one a line. The numbers are the first and the last of the lines of the small board for
+/// which the text stands, and the line and the kind of the refusal, or zeros where the whole is read.
+/// A semicolon in the text stands for a line feed.
+const CASES: &str = "4 4 8 8|
+8 8 8 4|pin a 34 9 41 11 top top;
+4 4 4 4|rule top sig 1 0;
+1 1 1 4|board 1 demo 1048577 20;
+8 8 8 11|pin a 36 9 34 11 top top;
+3 3 3 6|layer top;
+7 7 7 3|pin a 4 9 -6 11 top top;
+10 10 10 7|net b sig;
+10 10 10 2|route a;
+10 10 0 0|
+5 5 0 0|# any \u{e9} bytes;; \t;
+5 5 5 1|\r# not at the start;
+5 5 5 1|lay\u{e9}r;
+5 5 5 2|rules now;
+5 5 5 7|board x demo 40 20;
+5 5 5 3|block low x 0 22 14;
+8 8 8 5|net a power;
+5 5 5 6|rule top sig 0 0;
+5 5 5 4|block top 41 0 22 14;
+5 5 5 4|viakind v top top 65536;
+5 5 5 11|viakind v top top 1;
+1 1 0 0|board 01 demo 00000000000000000040 20;
+1 1 1 3|board 1 demo 000000000000000000040 20;
+1 1 1 4|board 1 demo 99999999999999999999 20;
+1 1 1 4|board 2 demo 40 20;
+1 1 1 3|board one demo 40 20;
+6 6 0 0|net a sig;net aaaaaaaaaaaaaaaaaaaaaaaaaaaaaaaaaaaaaaaaaaaaaaaaaaaaaaaaaaaaaaaa sig;
+6 6 7 2|net a sig;net aaaaaaaaaaaaaaaaaaaaaaaaaaaaaaaaaaaaaaaaaaaaaaaaaaaaaaaaaaaaaaaaa sig;
+2 2 0 0|layer top\r;
+1 10 1 9|
+1 10 2 9|\r
+1 10 3 9|;;
+1 10 1 1|\r\r;
+1 10 3 9|board 1 b 9 9;layer top
+1 10 10 8|board 1 b 9 9;layer a;layer b;layer c;layer d;layer e;layer f;layer g;layer h;end;
+1 10 10 10|board 1 b 9 9;layer a;layer b;layer c;layer d;layer e;layer f;layer g;layer h;layer i;
+1 10 6 8|board 1 b 9 9;class a;class b;class c;class d;end;
+1 10 6 10|board 1 b 9 9;class a;class b;class c;class d;class e;
+1 10 12 9|board 1 b 9 9;layer a;layer b;viakind a a b 0;viakind b a b 0;viakind c a b 0;viakind d a b 0;viakind e a b 0;viakind f a b 0;viakind g a b 0;viakind h b a 0;
+1 10 12 10|board 1 b 9 9;layer a;layer b;viakind a a b 0;viakind b a b 0;viakind c a b 0;viakind d a b 0;viakind e a b 0;viakind f a b 0;viakind g a b 0;viakind h b a 0;viakind i a b 0;
+1 10 12 11|board 1 b 9 9;layer a;layer b;viakind a a b 0;viakind b a b 0;viakind c a b 0;viakind d a b 0;viakind e a b 0;viakind f a b 0;viakind g a b 0;viakind h b a 0;viakind i a a 0;
+1 10 1 7|layer a;layer b;layer c;layer d;layer e;layer f;layer g;layer h;
+1 10 1 7|viakind a a b 0;viakind b a b 0;viakind c a b 0;viakind d a b 0;viakind e a b 0;viakind f a b 0;viakind g a b 0;viakind h b a 0;
+1 10 2 7|board 1 b 9 9;board 1 b 9 9;
+9 10 9 9|
+9 10 0 0|end
+9 10 0 0|end;
+9 10 10 2|end;route a;
+10 10 0 0|strips top sig;rules;strips top sig;
+5 5 5 7|strips top sig;
+5 5 5 7|strips low power;
+10 10 10 5|strips low sig;
+10 10 10 5|strips top power;
+10 10 10 5|strips sig top;
+10 10 10 2|strips;
+10 10 10 2|strips top;
+10 10 10 2|strips top sig 1;
+10 10 11 5|strips top sig;strips a sig;";
 
 /// Adds a text whose semicolons stand for line feeds.
 fn add(bytes: &mut Vec<u8>, text: &str) -> Result<(), AllocError> {
@@ -89,9 +91,8 @@ fn add(bytes: &mut Vec<u8>, text: &str) -> Result<(), AllocError> {
 /// The small board with a text for the lines `first` to `last`, counted from 1.
 fn changed(alloc: Global, first: u64, last: u64, text: &str) -> Result<Vec<u8>, AllocError> {
     let mut bytes = Vec::new(alloc);
-    let mut number = 0;
-    for line in BOARD.lines() {
-        number += 1;
+    for (index, line) in LINES.iter().enumerate() {
+        let number = index as u64 + 1;
         if number == first {
             add(&mut bytes, text)?;
         }
@@ -103,7 +104,7 @@ fn changed(alloc: Global, first: u64, last: u64, text: &str) -> Result<Vec<u8>, 
     Ok(bytes)
 }
 
-/// The number that the next word of a case is.
+/// A number of a case.
 fn number(word: Option<&str>) -> Result<u64, Fail> {
     Ok(word.ok_or("a case has four numbers")?.parse::<u64>()?)
 }
@@ -120,12 +121,12 @@ fn refusal_of(alloc: Global, bytes: &[u8]) -> Result<(u64, u64), Fail> {
 #[test]
 fn tells_the_first_line_and_kind(rt: HostRuntime) -> Result<(), Fail> {
     for case in CASES.split('\n') {
-        let mut words = case.splitn(5, ' ');
-        let first = number(words.next())?;
-        let last = number(words.next())?;
-        let line = number(words.next())?;
-        let kind = number(words.next())?;
-        let text = words.next().ok_or("a case has a text")?;
+        let (numbers, text) = case.split_once('|').ok_or("a case has a text")?;
+        let mut numbers = numbers.split(' ');
+        let first = number(numbers.next())?;
+        let last = number(numbers.next())?;
+        let line = number(numbers.next())?;
+        let kind = number(numbers.next())?;
         let bytes = changed(rt.alloc(), first, last, text)?;
         assert_eq!(rt; refusal_of(rt.alloc(), &bytes)?, (line, kind), "{case}");
     }
