@@ -1,7 +1,7 @@
 use super::*;
 use crate::connector::CONNECTOR;
-use board_model::Command;
 use std::alloc::{AllocError, Global};
+use std::process::Abort;
 use std::test::Fail;
 
 /// A small board, line by line.
@@ -133,38 +133,56 @@ fn tells_the_first_line_and_kind(rt: HostRuntime) -> Result<(), Fail> {
     Ok(())
 }
 
-#[test]
-fn reads_a_board(rt: HostRuntime) -> Result<(), Fail> {
-    let bytes = changed(rt.alloc(), 10, 10, "rules;strips top sig;")?;
-    let Ok(input) = read_input(rt.alloc(), &bytes) else {
-        return Err("the text is read".into());
-    };
+/// What a text says that is to be read.
+fn read(alloc: Global, bytes: &[u8]) -> Result<Input, Fail> {
+    match read_input(alloc, bytes) {
+        Ok(input) => Ok(input),
+        Err(_) => Err("the text is read".into()),
+    }
+}
+
+fn is_demo(rt: &impl Abort, input: &Input) {
     assert_eq!(rt; input.board.name(), "demo");
     assert_eq!(rt; input.board.width(), 40);
     assert_eq!(rt; input.board.height(), 20);
     assert_eq!(rt; input.board.pins().len(), 2);
     assert_eq!(rt; input.board.blocks().len(), 1);
     assert_eq!(rt; input.commands.len(), 2);
-    Ok(())
 }
 
 #[test]
-fn reads_lines_with_carriage_returns(rt: HostRuntime) -> Result<(), Fail> {
-    let mut bytes = Vec::new(rt.alloc());
-    for byte in CONNECTOR.bytes() {
+fn reads_a_board(rt: HostRuntime) -> Result<(), Fail> {
+    let bytes = changed(rt.alloc(), 10, 10, "rules;strips top sig;")?;
+    let input = read(rt.alloc(), &bytes)?;
+    is_demo(&rt, &input);
+    Ok(())
+}
+
+/// The text with a carriage return before each line feed.
+fn with_returns(alloc: Global, text: &str) -> Result<Vec<u8>, AllocError> {
+    let mut bytes = Vec::new(alloc);
+    for byte in text.bytes() {
         if byte == b'\n' {
             bytes.push(b'\r')?;
         }
         bytes.push(byte)?;
     }
-    let Ok(input) = read_input(rt.alloc(), &bytes) else {
-        return Err("the text is read".into());
-    };
+    Ok(bytes)
+}
+
+fn is_connector(rt: &impl Abort, input: &Input) {
     assert_eq!(rt; input.board.layers(), 4);
     assert_eq!(rt; input.board.kinds(), 3);
     assert_eq!(rt; input.board.nets(), 12);
     assert_eq!(rt; input.board.pins().len(), 24);
     assert_eq!(rt; input.board.blocks().len(), 8);
     assert_eq!(rt; input.commands.len(), 1);
+}
+
+#[test]
+fn reads_lines_with_carriage_returns(rt: HostRuntime) -> Result<(), Fail> {
+    let bytes = with_returns(rt.alloc(), CONNECTOR)?;
+    let input = read(rt.alloc(), &bytes)?;
+    is_connector(&rt, &input);
     Ok(())
 }
