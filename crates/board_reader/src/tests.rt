@@ -80,10 +80,14 @@ const CASES: &str = "4 4 8 8|
 10 10 10 2|strips top sig 1;
 10 10 11 5|strips top sig;strips a sig;";
 
-/// Adds a text whose semicolons stand for line feeds.
-fn add(bytes: &mut Vec<u8>, text: &str) -> Result<(), AllocError> {
+/// Adds a text in which a mark stands for the end of a line.
+fn add(bytes: &mut Vec<u8>, text: &str, mark: u8, end: &[u8]) -> Result<(), AllocError> {
     for byte in text.bytes() {
-        bytes.push(if byte == b';' { b'\n' } else { byte })?;
+        if byte == mark {
+            bytes.extend_from_slice(end)?;
+        } else {
+            bytes.push(byte)?;
+        }
     }
     Ok(())
 }
@@ -94,10 +98,10 @@ fn changed(alloc: Global, first: u64, last: u64, text: &str) -> Result<Vec<u8>, 
     for (index, line) in LINES.iter().enumerate() {
         let number = index as u64 + 1;
         if number == first {
-            add(&mut bytes, text)?;
+            add(&mut bytes, text, b';', b"\n")?;
         }
         if number < first || last < number {
-            add(&mut bytes, line)?;
+            bytes.extend_from_slice(line.as_bytes())?;
             bytes.push(b'\n')?;
         }
     }
@@ -158,18 +162,6 @@ fn reads_a_board(rt: HostRuntime) -> Result<(), Fail> {
     Ok(())
 }
 
-/// The text with a carriage return before each line feed.
-fn with_returns(alloc: Global, text: &str) -> Result<Vec<u8>, AllocError> {
-    let mut bytes = Vec::new(alloc);
-    for byte in text.bytes() {
-        if byte == b'\n' {
-            bytes.push(b'\r')?;
-        }
-        bytes.push(byte)?;
-    }
-    Ok(bytes)
-}
-
 fn is_connector(rt: &impl Abort, input: &Input) {
     assert_eq!(rt; input.board.layers(), 4);
     assert_eq!(rt; input.board.kinds(), 3);
@@ -181,7 +173,8 @@ fn is_connector(rt: &impl Abort, input: &Input) {
 
 #[test]
 fn reads_lines_with_carriage_returns(rt: HostRuntime) -> Result<(), Fail> {
-    let bytes = with_returns(rt.alloc(), CONNECTOR)?;
+    let mut bytes = Vec::new(rt.alloc());
+    add(&mut bytes, CONNECTOR, b'\n', b"\r\n")?;
     let input = read(rt.alloc(), &bytes)?;
     is_connector(&rt, &input);
     Ok(())
