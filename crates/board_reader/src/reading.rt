@@ -66,8 +66,7 @@ impl Draft {
                 self.add_end(words);
                 Ok(())
             }
-            Form::Rules => self.add_rules(words),
-            Form::Strips => self.add_strips(words),
+            Form::Rules | Form::Strips => self.add_command(form, words),
         }
     }
 
