@@ -24,7 +24,13 @@ const LINES: [&str; 10] = [
 const CASES: &str = "4 4 8 8|
 8 8 8 4|pin a 34 9 41 11 top top;
 4 4 4 4|rule top sig 1 0;
+4 4 4 4|rule top sig 65536 2;
+4 4 4 4|rule top sig 1 65536;
+4 4 0 0|rule top sig 65535 65535;
 1 1 1 4|board 1 demo 1048577 20;
+1 1 1 4|board 1 demo 40 1048577;
+1 1 1 4|board 1 demo 0 20;
+1 1 0 0|board 1 demo 1048576 1048576;
 8 8 8 11|pin a 36 9 34 11 top top;
 3 3 3 6|layer top;
 7 7 7 3|pin a 4 9 -6 11 top top;
@@ -40,6 +46,8 @@ const CASES: &str = "4 4 8 8|
 8 8 8 5|net a power;
 5 5 5 6|rule top sig 0 0;
 5 5 5 4|block top 41 0 22 14;
+5 5 5 4|block top 18 0 22 21;
+5 5 0 0|block top 0 0 40 20;
 5 5 5 4|viakind v top top 65536;
 5 5 5 11|viakind v top top 1;
 1 1 0 0|board 01 demo 00000000000000000040 20;
@@ -65,6 +73,10 @@ const CASES: &str = "4 4 8 8|
 1 10 1 7|layer a;layer b;layer c;layer d;layer e;layer f;layer g;layer h;
 1 10 1 7|viakind a a b 0;viakind b a b 0;viakind c a b 0;viakind d a b 0;viakind e a b 0;viakind f a b 0;viakind g a b 0;viakind h b a 0;
 1 10 2 7|board 1 b 9 9;board 1 b 9 9;
+1 10 0 0|board 1 b 9 9;layer a;layer b;class c;rule a c 1 1;rule b c 1 1;viakind v b a 65535;pad v c 65535;end;
+1 10 8 8|board 1 b 9 9;layer a;layer b;class c;rule a c 1 1;rule b c 1 1;viakind v b a 65535;end;
+1 10 8 4|board 1 b 9 9;layer a;layer b;class c;rule a c 1 1;rule b c 1 1;viakind v b a 65535;pad v c 65536;end;
+1 10 9 6|board 1 b 9 9;layer a;layer b;class c;rule a c 1 1;rule b c 1 1;viakind v b a 65535;pad v c 1;pad v c 2;
 9 10 9 9|
 9 10 0 0|end
 9 10 0 0|end;
@@ -72,6 +84,7 @@ const CASES: &str = "4 4 8 8|
 10 10 0 0|strips top sig;rules;strips top sig;
 5 5 5 7|strips top sig;
 5 5 5 7|strips low power;
+5 5 5 2|strips top;
 10 10 10 5|strips low sig;
 10 10 10 5|strips top power;
 10 10 10 5|strips sig top;
