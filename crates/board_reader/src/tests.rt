@@ -150,45 +150,43 @@ fn tells_the_first_line_and_kind(rt: HostRuntime) -> Result<(), Fail> {
     Ok(())
 }
 
-/// What a text says that is to be read.
-fn read(alloc: Global, bytes: &[u8]) -> Result<Input, Fail> {
-    match read_input(alloc, bytes) {
-        Ok(input) => Ok(input),
-        Err(_) => Err("the text is read".into()),
-    }
+/// How many layers, kinds of vias, nets, pins, blockages and commands there are.
+fn counts(input: &Input) -> [usize; 6] {
+    let board = &input.board;
+    [
+        board.layers() as usize,
+        board.kinds() as usize,
+        board.nets() as usize,
+        board.pins().len(),
+        board.blocks().len(),
+        input.commands.len(),
+    ]
 }
 
-fn is_demo(rt: &impl Abort, input: &Input) {
-    assert_eq!(rt; input.board.name(), "demo");
-    assert_eq!(rt; input.board.width(), 40);
-    assert_eq!(rt; input.board.height(), 20);
-    assert_eq!(rt; input.board.pins().len(), 2);
-    assert_eq!(rt; input.board.blocks().len(), 1);
-    assert_eq!(rt; input.commands.len(), 2);
+/// Asserts the name and the sides of a board, and how many of each there are.
+fn holds(rt: &impl Abort, input: &Input, name: &str, sides: (i32, i32), numbers: [usize; 6]) {
+    assert_eq!(rt; input.board.name(), name);
+    assert_eq!(rt; (input.board.width(), input.board.height()), sides);
+    assert_eq!(rt; counts(input), numbers);
 }
 
 #[test]
 fn reads_a_board(rt: HostRuntime) -> Result<(), Fail> {
     let bytes = changed(rt.alloc(), 10, 10, "rules;strips top sig;")?;
-    let input = read(rt.alloc(), &bytes)?;
-    is_demo(&rt, &input);
+    match read_input(rt.alloc(), &bytes) {
+        Ok(input) => holds(&rt, &input, "demo", (40, 20), [1, 0, 1, 2, 1, 2]),
+        Err(_) => return Err("the text is read".into()),
+    }
     Ok(())
-}
-
-fn is_connector(rt: &impl Abort, input: &Input) {
-    assert_eq!(rt; input.board.layers(), 4);
-    assert_eq!(rt; input.board.kinds(), 3);
-    assert_eq!(rt; input.board.nets(), 12);
-    assert_eq!(rt; input.board.pins().len(), 24);
-    assert_eq!(rt; input.board.blocks().len(), 8);
-    assert_eq!(rt; input.commands.len(), 1);
 }
 
 #[test]
 fn reads_lines_with_carriage_returns(rt: HostRuntime) -> Result<(), Fail> {
     let mut bytes = Vec::new(rt.alloc());
     add(&mut bytes, CONNECTOR, b'\n', b"\r\n")?;
-    let input = read(rt.alloc(), &bytes)?;
-    is_connector(&rt, &input);
+    match read_input(rt.alloc(), &bytes) {
+        Ok(input) => holds(&rt, &input, "J1-U3", (30000, 12500), [4, 3, 12, 24, 8, 1]),
+        Err(_) => return Err("the text is read".into()),
+    }
     Ok(())
 }
