@@ -1,5 +1,5 @@
 -- What the functions that add a line need of a line that breaks no rule.
-use Rattle.std.proofs.Common.{◌≡◌, ◌≢◌, ℕ, ◌+◌, ◌<◌, ◌≤◌, ◌^◌, false, List, All, length, get_or, sym, ap, ◌∙◌, arith, [], inl, inr, subst}
+use Rattle.std.proofs.Common.{◌≡◌, ◌≢◌, ℕ, ◌+◌, ◌<◌, ◌≤◌, ◌^◌, false, List, All, length, get_or, refl, sym, ap, ◌∙◌, arith, [], inl, inr, subst}
 use Rattle.std.proofs.lemmas.Bool.{cases_lt}
 use Rattle.std.proofs.lemmas.List.{get_or_past}
 use Rattle.board_model.specs.Rules.{IsWordByte}
@@ -12,6 +12,8 @@ use Rattle.board_reader.specs.declared.forms.Place.TheVariants.{Title, NewName, 
 use Rattle.board_reader.specs.declared.forms.Sort.TheVariants as sort
 use Rattle.board_reader.specs.declared.forms.Stage.TheVariants.{Start, Parts, Commands}
 use Rattle.board_reader.specs.declared.refusals.RefusalKind.TheVariants.{OutOfRange, TwiceNamed}
+use Rattle.board_reader.specs.Drafts.{after_form, command_of, with_command}
+use Rattle.board_reader.specs.Forms.{stage_of}
 use Rattle.board_reader.specs.Kept.{IsDraft, IsWord}
 use Rattle.board_reader.specs.Lines.{word}
 use Rattle.board_reader.specs.Names.{is_in}
@@ -99,3 +101,19 @@ ascii-word ws h i =
 -- what is known of the form is known of the one that it is
 pub as-form : (d : Draft) (f g : Form) (ws : List (List ℕ)) → f ≡ g → BreaksNone d f ws → BreaksNone d g ws
 as-form d f g ws e h = subst (λ x. BreaksNone d x ws) e h
+
+-- what a line after `end` says is its command
+pub command-form : (d : Draft) (f : Form) (ws : List (List ℕ)) → stage_of f ≡ Commands → with_command d (command_of d f ws) ≡ after_form d f ws
+unfolding after_form
+command-form d form.Board ws e = absurd (cc)
+command-form d form.Layer ws e = absurd (cc)
+command-form d form.Class ws e = absurd (cc)
+command-form d form.Rule ws e = absurd (cc)
+command-form d form.ViaKind ws e = absurd (cc)
+command-form d form.Pad ws e = absurd (cc)
+command-form d form.Block ws e = absurd (cc)
+command-form d form.Net ws e = absurd (cc)
+command-form d form.Pin ws e = absurd (cc)
+command-form d form.End ws e = absurd (cc)
+command-form d form.Rules ws e = refl
+command-form d form.Strips ws e = refl

@@ -1,10 +1,11 @@
 -- A line that breaks no rule leaves a draft that keeps all rules so far.
 use Rattle.std.proofs.Common.{◌≡◌, ◌≢◌, ℕ, ℤ, pos, ◌+◌, ◌<◌, ◌≤◌, ◌≤ℤ◌, min, max, Bool, true, false, List, [], ◌∷◌, ◌++◌, All, length, get_or, sym, ap, ◌∙◌, arith, inl, inr, subst}
-use Rattle.std.specs.Prelude.{nat_lt, not, ◌||◌, ◌==◌}
+use Rattle.std.specs.Prelude.{nat_lt, not, ◌||◌, ◌==◌, Option, Some, None}
 use Rattle.std.proofs.lemmas.Bool.{eqb-true, ltb-false, or_cases, not-false}
 use Rattle.std.proofs.lemmas.Int.{ints}
 use Rattle.std.proofs.lemmas.List.{length_push}
 use Rattle.board_model.specs.Rules.{IsName, AreNames, IsSide, IsMeasure, IsRule, IsKind, IsOnBoard}
+use Rattle.board_model.specs.declared.commands.Command.{Command}
 use Rattle.board_model.specs.declared.parts.ViaKind.{ViaKind}
 use Rattle.geo_rect.specs.declared.shapes.Rect.{Rect}
 use Rattle.board_reader.specs.declared.drafts.Draft.{Draft}
@@ -16,7 +17,7 @@ use Rattle.board_reader.specs.declared.forms.Sort.TheVariants as sort
 use Rattle.board_reader.specs.declared.forms.Stage.TheVariants.{Start, Parts, Commands}
 use Rattle.board_reader.specs.declared.refusals.RefusalKind.TheVariants.{BadWord, OutOfRange, UnknownName, TwiceNamed, TooMany, BadRect, MissingRule}
 use Rattle.board_reader.specs.Checks.{fails_whole, is_crossed, are_neighbours, is_complete}
-use Rattle.board_reader.specs.Drafts.{after_form, area_of, layer_of, class_of}
+use Rattle.board_reader.specs.Drafts.{after_form, area_of, layer_of, class_of, command_of, with_command}
 use Rattle.board_reader.specs.Kept.{IsDraft, IsWord, IsHeading, IsBlockOf, IsPinOf}
 use Rattle.board_reader.specs.Lines.{word}
 use Rattle.board_reader.specs.Names.{is_in, number_in}
@@ -278,27 +279,11 @@ keeps-end d ws k h =
       complete = λ _. not-false (is_complete d) (whole-line d form.End ws MissingRule h.whole);
     }
 
-keeps-rules : (d : Draft) (ws : List (List ℕ)) → IsDraft d → BreaksNone d form.Rules ws → IsDraft (after_form d form.Rules ws)
-unfolding after_form is_complete
-keeps-rules d ws k h =
-    record {
-      layers = k.layers;
-      classes = k.classes;
-      kind_names = k.kind_names;
-      net_names = k.net_names;
-      tables = k.tables;
-      kinds = k.kinds;
-      nets = k.nets;
-      blocks = k.blocks;
-      pins = k.pins;
-      empty = k.empty;
-      heading = k.heading;
-      complete = k.complete;
-    }
-
-keeps-strips : (d : Draft) (ws : List (List ℕ)) → IsDraft d → BreaksNone d form.Strips ws → IsDraft (after_form d form.Strips ws)
-unfolding after_form is_complete
-keeps-strips d ws k h =
+-- commands are no part of the board
+keeps-command : (d : Draft) (o : Option Command) → IsDraft d → IsDraft (with_command d o)
+unfolding is_complete
+keeps-command d None k = k
+keeps-command d (Some c) k =
     record {
       layers = k.layers;
       classes = k.classes;
@@ -315,6 +300,7 @@ keeps-strips d ws k h =
     }
 
 pub keeps-form : (d : Draft) (f : Form) (ws : List (List ℕ)) → IsDraft d → All IsWord ws → BreaksNone d f ws → IsDraft (after_form d f ws)
+unfolding after_form
 keeps-form d form.Board ws k w h = keeps-board d ws k w h
 keeps-form d form.Layer ws k w h = keeps-layer d ws k w h
 keeps-form d form.Class ws k w h = keeps-class d ws k w h
@@ -325,5 +311,5 @@ keeps-form d form.Block ws k w h = keeps-block d ws k w h
 keeps-form d form.Net ws k w h = keeps-net d ws k w h
 keeps-form d form.Pin ws k w h = keeps-pin d ws k w h
 keeps-form d form.End ws k w h = keeps-end d ws k h
-keeps-form d form.Rules ws k w h = keeps-rules d ws k h
-keeps-form d form.Strips ws k w h = keeps-strips d ws k h
+keeps-form d form.Rules ws k w h = keeps-command d (command_of d form.Rules ws) k
+keeps-form d form.Strips ws k w h = keeps-command d (command_of d form.Strips ws) k

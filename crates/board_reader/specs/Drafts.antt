@@ -1,5 +1,5 @@
 -- What the lines of a text say, one after the other.
-use Rattle.std.specs.Prelude.{ℕ, pos, min, max, List, [], ◌∷◌, ◌++◌, length}
+use Rattle.std.specs.Prelude.{ℕ, pos, min, max, List, [], ◌∷◌, ◌++◌, length, Option, Some, None}
 use Rattle.std.proofs.Common.{arith}
 use Rattle.geo_rect.specs.declared.ids.ClassId.{ClassId}
 use Rattle.geo_rect.specs.declared.ids.KindId.{KindId}
@@ -8,6 +8,7 @@ use Rattle.geo_rect.specs.declared.ids.NetId.{NetId}
 use Rattle.geo_rect.specs.declared.shapes.Interval.{Interval}
 use Rattle.geo_rect.specs.declared.shapes.Rect.{Rect}
 use Rattle.geo_rect.specs.Plane.{rect_of}
+use Rattle.board_model.specs.declared.commands.Command.{Command}
 use Rattle.board_model.specs.declared.commands.Command.TheVariants as command
 use Rattle.board_model.specs.declared.parts.BoardParts.{BoardParts}
 use Rattle.board_reader.specs.declared.drafts.Draft.{Draft}
@@ -55,6 +56,17 @@ kind_of d w = number_in d.kind_names w
 abbrev pub area_of : List (List ℕ) → Rect
 area_of ws = rect_of (span (number (word ws 2)) (number (word ws 4))) (span (number (word ws 3)) (number (word ws 5)))
 
+-- the command that a line of this form and these words gives, if it gives one
+abbrev pub command_of : Draft → Form → List (List ℕ) → Option Command
+command_of d form.Rules ws = Some command.Rules
+command_of d form.Strips ws = Some (command.Strips (record { 0 = layer_of d (word ws 1) }) (record { 0 = class_of d (word ws 2) }))
+command_of d f ws = None
+
+-- what the lines say with one more command, or with none
+abbrev pub with_command : Draft → Option Command → Draft
+with_command d None = d
+with_command d (Some c) = record d { commands = d.commands ++ c ∷ [] }
+
 -- what the lines say with one more, of this form and these words
 unfoldable pub after_form : Draft → Form → List (List ℕ) → Draft
 after_form d form.Board ws = record d {
@@ -99,10 +111,8 @@ after_form d form.Pin ws = record d {
   } ∷ [];
 }
 after_form d form.End ws = record d { stage = Commands }
-after_form d form.Rules ws = record d { commands = d.commands ++ command.Rules ∷ [] }
-after_form d form.Strips ws = record d {
-  commands = d.commands ++ command.Strips (record { 0 = layer_of d (word ws 1) }) (record { 0 = class_of d (word ws 2) }) ∷ []
-}
+after_form d form.Rules ws = with_command d (command_of d form.Rules ws)
+after_form d form.Strips ws = with_command d (command_of d form.Strips ws)
 
 -- the board of what the lines say: a rule for each layer and in it each class, a pad for each kind and in it each class
 unfoldable pub parts_of : Draft → BoardParts

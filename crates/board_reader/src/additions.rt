@@ -2,13 +2,13 @@ ghost use Rattle.std.specs.Prelude.{◌≡◌, ◌<◌, ◌≤◌, ◌^◌, leng
 ghost use Rattle.std.specs.Str.{IsAscii};
 ghost use Rattle.board_reader.specs.declared.forms.Form.TheVariants as form;
 ghost use Rattle.board_reader.specs.Corners.{span};
-ghost use Rattle.board_reader.specs.Drafts.{after_form, area_of};
+ghost use Rattle.board_reader.specs.Drafts.{after_form, area_of, command_of, with_command};
 ghost use Rattle.board_reader.specs.Lines.{word};
 ghost use Rattle.board_reader.specs.Names.{is_in};
 ghost use Rattle.board_reader.specs.Numbers.{number, IsShort, HaveShortCorners};
 
 use crate::drafts::{Draft, Heading};
-use crate::forms::Stage;
+use crate::forms::{Form, Stage};
 use crate::names::text_of;
 use crate::numbers::number;
 use crate::tables::Entry;
@@ -181,19 +181,27 @@ impl Draft {
         self.stage = Stage::Commands;
     }
 
-    #[tactic(auto, unfolding(crate::specs::Drafts::after_form))]
-    pub fn add_rules(&mut self, _words: &Words) -> Result<(), NoMemory>
-        ensures { OnOk result (self.new ≡ after_form self.old form.Rules _words.now) }
+    /// The command that a line of this form and these words gives, if it gives one.
+    fn command_of(&self, form: Form, words: &Words) -> Option<Command>
+        ensures { result ≡ command_of self.now form words.now }
     {
-        self.commands.push(Command::Rules)
+        match form {
+            Form::Rules => Some(Command::Rules),
+            Form::Strips => {
+                let layer = LayerId(self.layers.number(words.get(1)));
+                let class = ClassId(self.classes.number(words.get(2)));
+                Some(Command::Strips(layer, class))
+            }
+            _ => None,
+        }
     }
 
-    #[tactic(auto, unfolding(crate::specs::Drafts::after_form))]
-    pub fn add_strips(&mut self, words: &Words) -> Result<(), NoMemory>
-        ensures { OnOk result (self.new ≡ after_form self.old form.Strips words.now) }
+    pub fn add_command(&mut self, form: Form, words: &Words) -> Result<(), NoMemory>
+        ensures { OnOk result (self.new ≡ with_command self.old (command_of self.old form words.now)) }
     {
-        let layer = LayerId(self.layers.number(words.get(1)));
-        let class = ClassId(self.classes.number(words.get(2)));
-        self.commands.push(Command::Strips(layer, class))
+        match self.command_of(form, words) {
+            Some(command) => self.commands.push(command),
+            None => Ok(()),
+        }
     }
 }

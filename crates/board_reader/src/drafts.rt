@@ -8,7 +8,7 @@ use geo_rect::{ClassId, List, Text};
 use std::alloc::Global;
 
 /// What the line `board` says. Before that line it is nothing and zeros.
-#[derive(Debug, Drop)]
+#[derive(Drop)]
 pub struct Heading {
     pub version: u32,
     pub name: Text,

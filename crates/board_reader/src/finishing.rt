@@ -63,25 +63,12 @@ impl Draft {
     fn tables(&self, alloc: Global) -> Result<Tables, NoMemory>
         ensures { IfOk result (λ t. t ≡ tables_of_draft self.now) }
     {
-        let rules = self.rule_table(alloc)?;
-        let pads = self.pad_table(alloc)?;
-        Ok(Tables { rules, pads })
-    }
-
-    fn rule_table(&self, alloc: Global) -> Result<List<Rule>, NoMemory>
-        ensures { IfOk result (λ l. l ≡ table self.now.rules (length self.now.layers) (length self.now.classes)) }
-    {
         let layers = self.layers.len();
         let classes = self.classes.len();
-        lay_out(alloc, self.rules.as_slice(), layers, classes)
-    }
-
-    fn pad_table(&self, alloc: Global) -> Result<List<i32>, NoMemory>
-        ensures { IfOk result (λ l. l ≡ table self.now.pads (length self.now.kind_names) (length self.now.classes)) }
-    {
         let kinds = self.kind_names.len();
-        let classes = self.classes.len();
-        lay_out(alloc, self.pads.as_slice(), kinds, classes)
+        let rules = lay_out(alloc, self.rules.as_slice(), layers, classes)?;
+        let pads = lay_out(alloc, self.pads.as_slice(), kinds, classes)?;
+        Ok(Tables { rules, pads })
     }
 
     /// The board and the commands of a whole text.

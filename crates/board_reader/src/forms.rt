@@ -4,7 +4,7 @@ ghost use Rattle.board_reader.specs.Forms.{spelling, places, form_of, stage_of, 
 use board_model::{MAX_CHARGE, MAX_MEASURE, MAX_SIDE};
 
 /// What a name names. Each sort has names of its own.
-#[derive(Clone, Copy, Debug)]
+#[derive(Clone, Copy)]
 pub enum Sort {
     Layer,
     Class,
@@ -13,7 +13,7 @@ pub enum Sort {
 }
 
 /// What stands in the place of a word.
-#[derive(Clone, Copy, Debug)]
+#[derive(Clone, Copy)]
 pub enum Place {
     /// A name that may stand in other lines.
     Title,
@@ -30,7 +30,7 @@ pub enum Place {
 }
 
 /// A form of a line, which its first word names.
-#[derive(Clone, Copy, Debug)]
+#[derive(Clone, Copy)]
 pub enum Form {
     Board,
     Layer,
@@ -47,7 +47,7 @@ pub enum Form {
 }
 
 /// The parts of a board text.
-#[derive(Clone, Copy, Debug)]
+#[derive(Clone, Copy)]
 pub enum Stage {
     /// Before the line `board`.
     Start,
@@ -123,10 +123,7 @@ static PIN: [Place; 7] = [
     Place::KnownName(Sort::Layer),
 ];
 
-static STRIPS: [Place; 2] = [
-    Place::KnownName(Sort::Layer),
-    Place::KnownName(Sort::Class),
-];
+static STRIPS: [Place; 2] = [Place::KnownName(Sort::Layer), Place::KnownName(Sort::Class)];
 
 static ALONE: [Place; 0] = [];
 

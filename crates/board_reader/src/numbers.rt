@@ -2,16 +2,10 @@ ghost use Rattle.std.specs.Prelude.{◌≡◌, ◌<◌, ◌≤◌, ◌^◌, leng
 ghost use Rattle.std.specs.List.{list_all};
 ghost use Rattle.board_reader.specs.Numbers.{is_digit, is_number, value_from, number};
 
-fn is_digit(byte: u8) -> bool
-    ensures { result ≡ is_digit byte }
-{
-    byte.is_ascii_digit()
-}
-
 fn has_digits_alone(word: &[u8]) -> bool
     ensures { result ≡ list_all is_digit word.now }
 {
-    word.iter().all(|byte| is_digit(*byte))
+    word.iter().all(|byte| byte.is_ascii_digit())
 }
 
 /// Whether the word is a number: at most twenty decimal digits.

@@ -18,7 +18,7 @@ use geo_rect::NoMemory;
 use std::alloc::Global;
 
 /// Why a line was not read.
-#[derive(Clone, Copy, Debug)]
+#[derive(Clone, Copy)]
 pub enum LineError {
     Refused(RefusalKind),
     NoMemory,
@@ -66,8 +66,7 @@ impl Draft {
                 self.add_end(words);
                 Ok(())
             }
-            Form::Rules => self.add_rules(words),
-            Form::Strips => self.add_strips(words),
+            Form::Rules | Form::Strips => self.add_command(form, words),
         }
     }
 

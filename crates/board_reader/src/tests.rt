@@ -1,6 +1,7 @@
 use super::*;
 use crate::connector::CONNECTOR;
 use std::alloc::{AllocError, Global};
+use std::process::Abort;
 use std::test::Fail;
 
 /// A small board, line by line.
@@ -17,197 +18,175 @@ const LINES: [&str; 10] = [
     "rules",
 ];
 
-/// The lines with line `number`, counted from 1, replaced by a text, which may be of no or more lines.
-fn changed(alloc: Global, number: usize, text: &str) -> Result<Vec<u8>, AllocError> {
+/// The cases, one a line. The numbers are the first and the last of the lines of the small board for
+/// which the text stands, and the line and the kind of the refusal, or zeros where the whole is read.
+/// A semicolon in the text stands for a line feed.
+const CASES: &str = "4 4 8 8|
+8 8 8 4|pin a 34 9 41 11 top top;
+4 4 4 4|rule top sig 1 0;
+4 4 4 4|rule top sig 65536 2;
+4 4 4 4|rule top sig 1 65536;
+4 4 0 0|rule top sig 65535 65535;
+1 1 1 4|board 1 demo 1048577 20;
+1 1 1 4|board 1 demo 40 1048577;
+1 1 1 4|board 1 demo 0 20;
+1 1 0 0|board 1 demo 1048576 1048576;
+8 8 8 11|pin a 36 9 34 11 top top;
+3 3 3 6|layer top;
+7 7 7 3|pin a 4 9 -6 11 top top;
+10 10 10 7|net b sig;
+10 10 10 2|route a;
+10 10 0 0|
+5 5 0 0|# any \u{e9} bytes;; \t;
+5 5 5 1|\r# not at the start;
+5 5 5 1|lay\u{e9}r;
+5 5 5 2|rules now;
+5 5 5 7|board x demo 40 20;
+5 5 5 3|block low x 0 22 14;
+8 8 8 5|net a power;
+5 5 5 6|rule top sig 0 0;
+5 5 5 4|block top 41 0 22 14;
+5 5 5 4|block top 18 0 22 21;
+5 5 0 0|block top 0 0 40 20;
+5 5 5 4|viakind v top top 65536;
+5 5 5 11|viakind v top top 1;
+1 1 0 0|board 01 demo 00000000000000000040 20;
+1 1 1 3|board 1 demo 000000000000000000040 20;
+1 1 1 4|board 1 demo 99999999999999999999 20;
+1 1 1 4|board 2 demo 40 20;
+1 1 1 3|board one demo 40 20;
+6 6 0 0|net a sig;net aaaaaaaaaaaaaaaaaaaaaaaaaaaaaaaaaaaaaaaaaaaaaaaaaaaaaaaaaaaaaaaa sig;
+6 6 7 2|net a sig;net aaaaaaaaaaaaaaaaaaaaaaaaaaaaaaaaaaaaaaaaaaaaaaaaaaaaaaaaaaaaaaaaa sig;
+2 2 0 0|layer top\r;
+1 10 1 9|
+1 10 2 9|\r
+1 10 3 9|;;
+1 10 1 1|\r\r;
+1 10 3 9|board 1 b 9 9;layer top
+1 10 10 8|board 1 b 9 9;layer a;layer b;layer c;layer d;layer e;layer f;layer g;layer h;end;
+1 10 10 10|board 1 b 9 9;layer a;layer b;layer c;layer d;layer e;layer f;layer g;layer h;layer i;
+1 10 6 8|board 1 b 9 9;class a;class b;class c;class d;end;
+1 10 6 10|board 1 b 9 9;class a;class b;class c;class d;class e;
+1 10 12 9|board 1 b 9 9;layer a;layer b;viakind a a b 0;viakind b a b 0;viakind c a b 0;viakind d a b 0;viakind e a b 0;viakind f a b 0;viakind g a b 0;viakind h b a 0;
+1 10 12 10|board 1 b 9 9;layer a;layer b;viakind a a b 0;viakind b a b 0;viakind c a b 0;viakind d a b 0;viakind e a b 0;viakind f a b 0;viakind g a b 0;viakind h b a 0;viakind i a b 0;
+1 10 12 11|board 1 b 9 9;layer a;layer b;viakind a a b 0;viakind b a b 0;viakind c a b 0;viakind d a b 0;viakind e a b 0;viakind f a b 0;viakind g a b 0;viakind h b a 0;viakind i a a 0;
+1 10 1 7|layer a;layer b;layer c;layer d;layer e;layer f;layer g;layer h;
+1 10 1 7|viakind a a b 0;viakind b a b 0;viakind c a b 0;viakind d a b 0;viakind e a b 0;viakind f a b 0;viakind g a b 0;viakind h b a 0;
+1 10 2 7|board 1 b 9 9;board 1 b 9 9;
+1 10 0 0|board 1 b 9 9;layer a;layer b;class c;rule a c 1 1;rule b c 1 1;viakind v b a 65535;pad v c 65535;end;
+1 10 8 8|board 1 b 9 9;layer a;layer b;class c;rule a c 1 1;rule b c 1 1;viakind v b a 65535;end;
+1 10 8 4|board 1 b 9 9;layer a;layer b;class c;rule a c 1 1;rule b c 1 1;viakind v b a 65535;pad v c 65536;end;
+1 10 9 6|board 1 b 9 9;layer a;layer b;class c;rule a c 1 1;rule b c 1 1;viakind v b a 65535;pad v c 1;pad v c 2;
+9 10 9 9|
+9 10 0 0|end
+9 10 0 0|end;
+9 10 10 2|end;route a;
+10 10 0 0|strips top sig;rules;strips top sig;
+5 5 5 7|strips top sig;
+5 5 5 7|strips low power;
+5 5 5 2|strips top;
+10 10 10 5|strips low sig;
+10 10 10 5|strips top power;
+10 10 10 5|strips sig top;
+10 10 10 2|strips;
+10 10 10 2|strips top;
+10 10 10 2|strips top sig 1;
+10 10 11 5|strips top sig;strips a sig;";
+
+/// Adds a text in which a mark stands for the end of a line.
+fn add(bytes: &mut Vec<u8>, text: &str, mark: u8, end: &[u8]) -> Result<(), AllocError> {
+    for byte in text.bytes() {
+        if byte == mark {
+            bytes.extend_from_slice(end)?;
+        } else {
+            bytes.push(byte)?;
+        }
+    }
+    Ok(())
+}
+
+/// The small board with a text for the lines `first` to `last`, counted from 1.
+fn changed(alloc: Global, first: u64, last: u64, text: &str) -> Result<Vec<u8>, AllocError> {
     let mut bytes = Vec::new(alloc);
     for (index, line) in LINES.iter().enumerate() {
-        if index + 1 == number {
-            bytes.extend_from_slice(text.as_bytes())?;
-        } else {
+        let number = index as u64 + 1;
+        if number == first {
+            add(&mut bytes, text, b';', b"\n")?;
+        }
+        if number < first || last < number {
             bytes.extend_from_slice(line.as_bytes())?;
-            bytes.extend_from_slice(b"\n")?;
+            bytes.push(b'\n')?;
         }
     }
     Ok(bytes)
 }
 
+/// A number of a case.
+fn number(word: Option<&str>) -> Result<u64, Fail> {
+    Ok(word.ok_or("a case has four numbers")?.parse::<u64>()?)
+}
+
 /// Line and kind of the refusal, and zeros where the text is read.
-fn refusal_of(alloc: Global, bytes: &[u8]) -> Result<(u64, u8), Fail> {
+fn refusal_of(alloc: Global, bytes: &[u8]) -> Result<(u64, u64), Fail> {
     match read_input(alloc, bytes) {
         Ok(_) => Ok((0, 0)),
-        Err(ReadInput::Refused(refusal)) => Ok((refusal.line, refusal.kind.number())),
+        Err(ReadInput::Refused(refusal)) => Ok((refusal.line, u64::from(refusal.kind.number()))),
         Err(ReadInput::NoMemory) => Err("no memory".into()),
     }
 }
 
 #[test]
+fn tells_the_first_line_and_kind(rt: HostRuntime) -> Result<(), Fail> {
+    for case in CASES.split('\n') {
+        let (numbers, text) = case.split_once('|').ok_or("a case has a text")?;
+        let mut numbers = numbers.split(' ');
+        let first = number(numbers.next())?;
+        let last = number(numbers.next())?;
+        let line = number(numbers.next())?;
+        let kind = number(numbers.next())?;
+        let bytes = changed(rt.alloc(), first, last, text)?;
+        assert_eq!(rt; refusal_of(rt.alloc(), &bytes)?, (line, kind), "{case}");
+    }
+    Ok(())
+}
+
+/// How many layers, kinds of vias, nets, pins, blockages and commands there are.
+fn counts(input: &Input) -> [usize; 6] {
+    let board = &input.board;
+    [
+        board.layers() as usize,
+        board.kinds() as usize,
+        board.nets() as usize,
+        board.pins().len(),
+        board.blocks().len(),
+        input.commands.len(),
+    ]
+}
+
+/// Asserts the name and the sides of a board, and how many of each there are.
+fn holds(rt: &impl Abort, input: &Input, name: &str, sides: (i32, i32), numbers: [usize; 6]) {
+    assert_eq!(rt; input.board.name(), name);
+    assert_eq!(rt; (input.board.width(), input.board.height()), sides);
+    assert_eq!(rt; counts(input), numbers);
+}
+
+#[test]
 fn reads_a_board(rt: HostRuntime) -> Result<(), Fail> {
-    let text = changed(rt.alloc(), 10, "rules\n")?;
-    let Ok(input) = read_input(rt.alloc(), &text) else {
-        return Err("the text is read".into());
-    };
-    assert_eq!(rt; input.board.name(), "demo");
-    assert_eq!(rt; input.board.width(), 40);
-    assert_eq!(rt; input.board.height(), 20);
-    assert_eq!(rt; input.board.pins().len(), 2);
-    assert_eq!(rt; input.board.blocks().len(), 1);
-    assert_eq!(rt; input.commands.len(), 1);
-    Ok(())
-}
-
-#[test]
-fn refuses_changed_lines(rt: HostRuntime) -> Result<(), Fail> {
-    let cases: [(usize, &str, u64, u8); 12] = [
-        (4, "", 8, 8),
-        (8, "pin a 34 9 41 11 top top\n", 8, 4),
-        (4, "rule top sig 1 0\n", 4, 4),
-        (1, "board 1 demo 1048577 20\n", 1, 4),
-        (8, "pin a 36 9 34 11 top top\n", 8, 11),
-        (3, "layer top\n", 3, 6),
-        (7, "pin a 4 9 -6 11 top top\n", 7, 3),
-        (10, "net b sig\n", 10, 7),
-        (10, "route a\n", 10, 2),
-        (10, "", 0, 0),
-        (5, "# any \u{e9} bytes\n\n \t\n", 0, 0),
-        (5, "\r# not at the start\n", 5, 1),
-    ];
-    for (number, text, line, kind) in cases {
-        let bytes = changed(rt.alloc(), number, text)?;
-        assert_eq!(rt; refusal_of(rt.alloc(), &bytes)?, (line, kind), "{text}");
+    let bytes = changed(rt.alloc(), 10, 10, "rules;strips top sig;")?;
+    match read_input(rt.alloc(), &bytes) {
+        Ok(input) => holds(&rt, &input, "demo", (40, 20), [1, 0, 1, 2, 1, 2]),
+        Err(_) => return Err("the text is read".into()),
     }
-    Ok(())
-}
-
-#[test]
-fn tells_the_first_kind(rt: HostRuntime) -> Result<(), Fail> {
-    let cases: [(usize, &str, u64, u8); 9] = [
-        (5, "lay\u{e9}r\n", 5, 1),
-        (5, "rules now\n", 5, 2),
-        (5, "board x demo 40 20\n", 5, 7),
-        (5, "block low x 0 22 14\n", 5, 3),
-        (8, "net a power\n", 8, 5),
-        (5, "rule top sig 0 0\n", 5, 6),
-        (5, "block top 41 0 22 14\n", 5, 4),
-        (5, "viakind v top top 65536\n", 5, 4),
-        (5, "viakind v top top 1\n", 5, 11),
-    ];
-    for (number, text, line, kind) in cases {
-        let bytes = changed(rt.alloc(), number, text)?;
-        assert_eq!(rt; refusal_of(rt.alloc(), &bytes)?, (line, kind), "{text}");
-    }
-    Ok(())
-}
-
-#[test]
-fn numbers_names_and_ends(rt: HostRuntime) -> Result<(), Fail> {
-    let cases: [(usize, &str, u64, u8); 8] = [
-        (1, "board 01 demo 00000000000000000040 20\n", 0, 0),
-        (1, "board 1 demo 000000000000000000040 20\n", 1, 3),
-        (1, "board 1 demo 99999999999999999999 20\n", 1, 4),
-        (1, "board 2 demo 40 20\n", 1, 4),
-        (1, "board one demo 40 20\n", 1, 3),
-        (
-            6,
-            "net a sig\nnet aaaaaaaaaaaaaaaaaaaaaaaaaaaaaaaaaaaaaaaaaaaaaaaaaaaaaaaaaaaaaaaa sig\n",
-            0,
-            0,
-        ),
-        (
-            6,
-            "net a sig\nnet aaaaaaaaaaaaaaaaaaaaaaaaaaaaaaaaaaaaaaaaaaaaaaaaaaaaaaaaaaaaaaaaa sig\n",
-            7,
-            2,
-        ),
-        (2, "layer top\r\n", 0, 0),
-    ];
-    for (number, text, line, kind) in cases {
-        let bytes = changed(rt.alloc(), number, text)?;
-        assert_eq!(rt; refusal_of(rt.alloc(), &bytes)?, (line, kind), "{text}");
-    }
-    Ok(())
-}
-
-#[test]
-fn whole_texts(rt: HostRuntime) -> Result<(), Fail> {
-    let board = "board 1 b 9 9\n";
-    let layers = "layer a\nlayer b\nlayer c\nlayer d\nlayer e\nlayer f\nlayer g\nlayer h\n";
-    let classes = "class a\nclass b\nclass c\nclass d\n";
-    let kinds =
-        "viakind a a b 0\nviakind b a b 0\nviakind c a b 0\nviakind d a b 0\nviakind e a b 0\nviakind f a b 0\nviakind g a b 0\nviakind h b a 0\n";
-    let cases: [(&str, &str, &str, u64, u8); 13] = [
-        ("", "", "", 1, 9),
-        ("", "", "\r", 2, 9),
-        ("", "", "\n\n", 3, 9),
-        ("", "", "\r\r\n", 1, 1),
-        (board, "", "layer top", 3, 9),
-        (board, layers, "end\n", 10, 8),
-        (board, layers, "layer i\n", 10, 10),
-        (board, classes, "end\n", 6, 8),
-        (board, classes, "class e\n", 6, 10),
-        (board, "layer a\nlayer b\n", kinds, 12, 9),
-        (layers, "", "", 1, 7),
-        (kinds, "", "", 1, 7),
-        (board, board, "", 2, 7),
-    ];
-    for (one, two, three, line, kind) in cases {
-        let mut bytes = Vec::new(rt.alloc());
-        bytes.extend_from_slice(one.as_bytes())?;
-        bytes.extend_from_slice(two.as_bytes())?;
-        bytes.extend_from_slice(three.as_bytes())?;
-        assert_eq!(rt;
-            refusal_of(rt.alloc(), &bytes)?,
-            (line, kind),
-            "{one}{two}{three}"
-        );
-    }
-    let cases: [(&str, u64, u8); 2] = [
-        ("viakind i a b 0\n", 12, 10),
-        ("viakind i a a 0\n", 12, 11),
-    ];
-    for (last, line, kind) in cases {
-        let mut bytes = Vec::new(rt.alloc());
-        bytes.extend_from_slice(b"board 1 b 9 9\nlayer a\nlayer b\n")?;
-        bytes.extend_from_slice(kinds.as_bytes())?;
-        bytes.extend_from_slice(last.as_bytes())?;
-        assert_eq!(rt; refusal_of(rt.alloc(), &bytes)?, (line, kind), "{last}");
-    }
-    Ok(())
-}
-
-#[test]
-fn cut_texts(rt: HostRuntime) -> Result<(), Fail> {
-    let mut bytes = Vec::new(rt.alloc());
-    for line in &LINES[..8] {
-        bytes.extend_from_slice(line.as_bytes())?;
-        bytes.extend_from_slice(b"\n")?;
-    }
-    assert_eq!(rt; refusal_of(rt.alloc(), &bytes)?, (9, 9));
-    bytes.extend_from_slice(b"end")?;
-    assert_eq!(rt; refusal_of(rt.alloc(), &bytes)?, (0, 0));
-    bytes.extend_from_slice(b"\n")?;
-    assert_eq!(rt; refusal_of(rt.alloc(), &bytes)?, (0, 0));
-    bytes.extend_from_slice(b"route a\n")?;
-    assert_eq!(rt; refusal_of(rt.alloc(), &bytes)?, (10, 2));
     Ok(())
 }
 
 #[test]
 fn reads_lines_with_carriage_returns(rt: HostRuntime) -> Result<(), Fail> {
     let mut bytes = Vec::new(rt.alloc());
-    for byte in CONNECTOR.as_bytes() {
-        if *byte == b'\n' {
-            bytes.push(b'\r')?;
-        }
-        bytes.push(*byte)?;
+    add(&mut bytes, CONNECTOR, b'\n', b"\r\n")?;
+    match read_input(rt.alloc(), &bytes) {
+        Ok(input) => holds(&rt, &input, "J1-U3", (30000, 12500), [4, 3, 12, 24, 8, 1]),
+        Err(_) => return Err("the text is read".into()),
     }
-    let Ok(input) = read_input(rt.alloc(), &bytes) else {
-        return Err("the text is read".into());
-    };
-    assert_eq!(rt; input.board.layers(), 4);
-    assert_eq!(rt; input.board.kinds(), 3);
-    assert_eq!(rt; input.board.nets(), 12);
-    assert_eq!(rt; input.board.pins().len(), 24);
-    assert_eq!(rt; input.board.blocks().len(), 8);
-    assert_eq!(rt; input.commands.len(), 1);
     Ok(())
 }

@@ -29,9 +29,16 @@ impl<'a> Words<'a> {
     pub fn of(alloc: Global, line: &'a [u8]) -> Result<Words<'a>, NoMemory>
         ensures { IfOk result (λ w. w ≡ take 9 (words line.now)) }
     {
-        Ok(Words {
-            items: first_words(alloc, line)?,
-        })
+        let mut items = Vec::new(alloc);
+        let mut rest = line;
+        for _ in 0..MOST_WORDS {
+            let Some((word, after)) = next_word(rest) else {
+                return Ok(Words { items });
+            };
+            items.push(word)?;
+            rest = after;
+        }
+        Ok(Words { items })
     }
 
     /// The number of words, up to nine.
@@ -50,21 +57,6 @@ impl<'a> Words<'a> {
             None => &[],
         }
     }
-}
-
-fn first_words(alloc: Global, line: &[u8]) -> Result<Vec<&[u8]>, NoMemory>
-    ensures { IfOk result (λ v. map (λ r. r.now) v.items ≡ take 9 (words line.now)) }
-{
-    let mut items = Vec::new(alloc);
-    let mut rest = line;
-    for _ in 0..MOST_WORDS {
-        let Some((word, after)) = next_word(rest) else {
-            return Ok(items);
-        };
-        items.push(word)?;
-        rest = after;
-    }
-    Ok(items)
 }
 
 /// The first word of a line, and what follows it.

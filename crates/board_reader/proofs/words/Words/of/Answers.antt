@@ -2,7 +2,7 @@ use Rattle.std.proofs.Common.{◌≡◌, ◌∷◌, [], ◌++◌, ◌-◌, map, 
 use Rattle.std.proofs.lemmas.List.{map-append}
 use Rattle.board_reader.specs.Lines.{words}
 use Rattle.board_reader.proofs.FirstWord.{take-next}
-use Rattle.board_reader.proofs.words.first_words.Goals as goal
+use Rattle.board_reader.proofs.words.Words.of.Goals as goal
 
 pub loop-preserved : goal.loop-preserved
 loop-preserved c =
