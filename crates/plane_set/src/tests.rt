@@ -1,12 +1,13 @@
 ghost use Rattle.std.specs.Prelude.{IsTrue};
 ghost use Rattle.geo_rect.specs.Plane.{HasPoint};
 ghost use Rattle.board_model.specs.Known.{IsKnown, IsNearOrigin};
+ghost use Rattle.grow_rules.specs.Frames.{IsBoardPoint};
 ghost use Rattle.plane_set.specs.Standing.{HasPlanes};
 
 use crate::PlaneSet;
 use board_model::{Block, Board, BoardParts, Pin, Rule, Shape, ViaKind};
 use flat_plane::FlatPlane;
-use geo_rect::{ClassId, KindId, Label, LayerId, List, NetId, NoMemory, Point, Rect, Text};
+use geo_rect::{ClassId, KindId, Label, LayerId, List, NetId, NoMemory, Node, Point, Rect, Text};
 use plane_core::{Plane, Strips};
 use std::alloc::Global;
 use std::process::Abort;
@@ -218,5 +219,51 @@ fn check_vias<P: Plane>(rt: &impl Abort, alloc: Global) -> Result<(), NoMemory> 
 #[test]
 fn vias_keep_off_both_layers(rt: HostRuntime) -> Result<(), Fail> {
     check_vias::<FlatPlane>(&rt, rt.alloc())?;
+    Ok(())
+}
+
+/// Whether the net may pass a point of the first layer.
+fn may_pass<P: Plane>(rt: &impl Abort, board: &Board, set: &PlaneSet<P>, at: Point) -> bool
+    requires { HasPlanes board.now.parts set.now }
+{
+    assert!(rt; board.nets() > 0);
+    assert!(rt; board.layers() > 0);
+    assert!(rt; is_on_board(board, at));
+    let node = Node {
+        x: at.x,
+        y: at.y,
+        layer: LayerId(0),
+    };
+    set.passable(board, NetId(0), node)
+}
+
+fn is_on_board(board: &Board, p: Point) -> bool
+    ensures { IsTrue result → IsBoardPoint board.now.parts p }
+{
+    if p.x < 0 {
+        return false;
+    }
+    if p.x > board.width() {
+        return false;
+    }
+    if p.y < 0 {
+        return false;
+    }
+    p.y <= board.height()
+}
+
+/// The wall keeps the net off as far as its gap, and no farther.
+fn check_wall<P: Plane>(rt: &impl Abort, alloc: Global) -> Result<(), NoMemory> {
+    let parts = parts_of(alloc, 40, 20, &[block(wall())], &[])?;
+    let board = board_of(rt, alloc, parts)?;
+    let set: PlaneSet<P> = PlaneSet::build(alloc, &board)?;
+    assert!(rt; may_pass(rt, &board, &set, Point { x: 15, y: 5 }));
+    assert!(rt; !may_pass(rt, &board, &set, Point { x: 16, y: 5 }));
+    Ok(())
+}
+
+#[test]
+fn a_net_passes_outside_the_gap_of_a_wall(rt: HostRuntime) -> Result<(), Fail> {
+    check_wall::<FlatPlane>(&rt, rt.alloc())?;
     Ok(())
 }
