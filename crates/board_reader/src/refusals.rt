@@ -50,7 +50,7 @@ pub struct Refusal {
 }
 
 /// Why a board text was not read.
-#[derive(Clone, Copy)]
+#[derive(Clone, Copy, Debug, PartialEq, Eq)]
 pub enum ReadInput {
     Refused(Refusal),
     NoMemory,
