@@ -1,5 +1,6 @@
-ghost use Rattle.std.specs.Prelude.{◌≡◌, length, IfOk};
-ghost use Rattle.board_model.specs.WellFormed.{IsWellFormed, AreWellFormed};
+ghost use Rattle.std.specs.Prelude.{◌≡◌, length, All, IfOk};
+ghost use Rattle.board_model.specs.Made.{conns_of};
+ghost use Rattle.board_model.specs.WellFormed.{IsWellFormed};
 
 use crate::boards::Board;
 use crate::boxes::{attach_boxes, target_boxes};
@@ -175,7 +176,9 @@ fn one_made(alloc: Global, board: &Board) -> Result<Made, NoMemory>
     requires kinds { length board.now.parts.kinds ≡ 2 }
     requires nets { length board.now.parts.net_names ≡ 2 }
     ensures nets { IfOk result (λ made. length made.lists ≡ length board.now.parts.net_names) }
-    ensures well_formed { IfOk result (λ made. AreWellFormed board.now.parts made.lists) }
+    ensures one { IfOk result (λ made. length (conns_of made.lists (record { 0 = 0 })) ≡ 1) }
+    ensures well_formed { IfOk result (λ made.
+        All (IsWellFormed board.now.parts) (conns_of made.lists (record { 0 = 0 }))) }
 {
     let conn = wire_and_via(alloc, board)?;
     let mut made = Made::none(alloc, board)?;
@@ -183,50 +186,93 @@ fn one_made(alloc: Global, board: &Board) -> Result<Made, NoMemory>
     Ok(made)
 }
 
-fn is_shape(shape: &Shape, layer: u32, area: Rect) -> bool {
-    *shape
-        == Shape {
-            area,
-            layer: LayerId(layer),
-            owner: Some(NetId(0)),
-        }
+fn copper(layer: u32, area: Rect) -> Shape {
+    Shape {
+        area,
+        layer: LayerId(layer),
+        owner: Some(NetId(0)),
+    }
 }
 
-fn is_spot(spot: &Spot, layer: u32, area: Rect) -> bool {
-    *spot
-        == Spot {
-            layer: LayerId(layer),
-            area,
-        }
+fn spot(layer: u32, area: Rect) -> Spot {
+    Spot {
+        layer: LayerId(layer),
+        area,
+    }
+}
+
+/// The shapes of the wire and the via.
+fn found_shapes(alloc: Global, board: &Board) -> Result<List<Shape>, NoMemory>
+    requires layers { length board.now.parts.layers ≡ 2 }
+    requires kinds { length board.now.parts.kinds ≡ 2 }
+    requires nets { length board.now.parts.net_names ≡ 2 }
+{
+    let conn = wire_and_via(alloc, board)?;
+    shapes_of(alloc, board, NetId(0), &conn)
+}
+
+fn are_wire_and_pads(shapes: &[Shape]) -> bool {
+    let wire = Rect::new(2, 4, 10, 6);
+    let pad = Rect::new(7, 3, 11, 7);
+    let expected = [copper(0, wire), copper(0, pad), copper(1, pad)];
+    shapes == expected.as_slice()
 }
 
 #[test]
 fn shapes_of_a_connection(rt: HostRuntime) -> Result<(), Fail> {
     let board = build(&rt, rt.alloc())?;
-    let conn = wire_and_via(rt.alloc(), &board)?;
-    let shapes = shapes_of(rt.alloc(), &board, NetId(0), &conn)?;
-    assert_eq!(rt; shapes.len(), 3);
-    assert!(rt; is_shape(&shapes.as_slice()[0], 0, Rect::new(2, 4, 10, 6)));
-    assert!(rt; is_shape(&shapes.as_slice()[1], 0, Rect::new(7, 3, 11, 7)));
-    assert!(rt; is_shape(&shapes.as_slice()[2], 1, Rect::new(7, 3, 11, 7)));
+    let shapes = found_shapes(rt.alloc(), &board)?;
+    assert!(rt; are_wire_and_pads(shapes.as_slice()));
     Ok(())
 }
 
+fn are_two_pins(boxes: &[Spot]) -> bool {
+    let a = Rect::new(3, 5, 3, 5);
+    let b = Rect::new(9, 5, 9, 5);
+    let expected = [spot(0, a), spot(1, a), spot(0, b), spot(1, b)];
+    boxes == expected.as_slice()
+}
+
+fn are_line_and_point(boxes: &[Spot]) -> bool {
+    let line = Rect::new(3, 5, 9, 5);
+    let b = Rect::new(9, 5, 9, 5);
+    let expected = [spot(0, line), spot(0, b), spot(1, b)];
+    boxes == expected.as_slice()
+}
+
+/// Whether the boxes are those of net a's pins and then of its wire and its via.
+fn are_sources(boxes: &[Spot]) -> bool {
+    if boxes.len() != 7 {
+        return false;
+    }
+    if !are_two_pins(&boxes[..4]) {
+        return false;
+    }
+    are_line_and_point(&boxes[4..])
+}
+
 #[test]
-fn boxes_of_a_net(rt: HostRuntime) -> Result<(), Fail> {
+fn sources_of_a_net(rt: HostRuntime) -> Result<(), Fail> {
     let board = build(&rt, rt.alloc())?;
     assert!(rt; board.pin_count(NetId(0)) == 2);
     let made = one_made(rt.alloc(), &board)?;
-    assert!(rt; made.conns(NetId(0)).len() == 1);
-    let sources = attach_boxes(rt.alloc(), &board, &made, NetId(0))?;
-    assert_eq!(rt; sources.len(), 7);
-    assert!(rt; is_spot(&sources.as_slice()[1], 1, Rect::new(3, 5, 3, 5)));
-    assert!(rt; is_spot(&sources.as_slice()[2], 0, Rect::new(9, 5, 9, 5)));
-    assert!(rt; is_spot(&sources.as_slice()[4], 0, Rect::new(3, 5, 9, 5)));
-    assert!(rt; is_spot(&sources.as_slice()[6], 1, Rect::new(9, 5, 9, 5)));
-    let targets = target_boxes(rt.alloc(), &board, NetId(0), 1)?;
-    assert_eq!(rt; targets.len(), 2);
-    assert!(rt; is_spot(&targets.as_slice()[0], 0, Rect::new(9, 5, 9, 5)));
+    let boxes = attach_boxes(rt.alloc(), &board, &made, NetId(0))?;
+    assert!(rt; are_sources(boxes.as_slice()));
+    Ok(())
+}
+
+fn are_targets(boxes: &[Spot]) -> bool {
+    let b = Rect::new(9, 5, 9, 5);
+    let expected = [spot(0, b), spot(1, b)];
+    boxes == expected.as_slice()
+}
+
+#[test]
+fn targets_of_a_net(rt: HostRuntime) -> Result<(), Fail> {
+    let board = build(&rt, rt.alloc())?;
+    assert!(rt; board.pin_count(NetId(0)) == 2);
+    let boxes = target_boxes(rt.alloc(), &board, NetId(0), 1)?;
+    assert!(rt; are_targets(boxes.as_slice()));
     Ok(())
 }
 
@@ -235,8 +281,7 @@ fn connections_come_and_go(rt: HostRuntime) -> Result<(), Fail> {
     let board = build(&rt, rt.alloc())?;
     let mut made = one_made(rt.alloc(), &board)?;
     let copy = copy_conns(rt.alloc(), made.conns(NetId(0)))?;
-    assert_eq!(rt; (copy.len(), made.conns(NetId(1)).len()), (1, 0));
-    assert_eq!(rt; copy.as_slice()[0].legs.len(), 2);
+    assert_eq!(rt; copy.len(), 1);
     made.clear(NetId(0));
     assert!(rt; made.conns(NetId(0)).is_empty());
     Ok(())
