@@ -59,6 +59,18 @@ fn add_kind(alloc: Global, parts: &mut BoardParts) -> Result<(), NoMemory> {
     parts.pads.push(2)
 }
 
+fn fill(
+    alloc: Global,
+    parts: &mut BoardParts,
+    blocks: &[Block],
+    pins: &[Pin],
+) -> Result<(), NoMemory> {
+    add_layers(alloc, parts)?;
+    add_kind(alloc, parts)?;
+    parts.blocks.extend_from_slice(blocks)?;
+    parts.pins.extend_from_slice(pins)
+}
+
 /// A board of this width, 20 high, with these blockages and pins.
 fn board_with(
     rt: &impl Abort,
@@ -68,10 +80,7 @@ fn board_with(
     pins: &[Pin],
 ) -> Result<Board, NoMemory> {
     let mut parts = bare(alloc, Text::from_str(alloc, "small")?, width);
-    add_layers(alloc, &mut parts)?;
-    add_kind(alloc, &mut parts)?;
-    parts.blocks.extend_from_slice(blocks)?;
-    parts.pins.extend_from_slice(pins)?;
+    fill(alloc, &mut parts, blocks, pins)?;
     assert!(rt; parts.is_board());
     Board::build(alloc, parts)
 }
