@@ -1,3 +1,5 @@
+ghost use Rattle.geo_rect.specs.Plane.{IsBounded};
+
 use crate::{Queue, Table};
 use geo_rect::{LayerId, Rect};
 use route_law::{Entry, Origin};
@@ -5,7 +7,10 @@ use std::alloc::Global;
 use std::test::Fail;
 
 /// A front that is its whole strip, known by its cost.
-fn front(cost: u128, strip: Rect) -> Entry {
+fn front(cost: u128, strip: Rect) -> Entry
+    requires { IsBounded strip }
+    ensures { IsBounded result.front }
+{
     Entry {
         layer: LayerId(0),
         strip,
