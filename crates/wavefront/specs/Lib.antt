@@ -1,3 +1,4 @@
+pub mod Chains
 pub mod PushOrder
 pub mod Reached
 pub mod Waiting

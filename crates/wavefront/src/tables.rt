@@ -3,30 +3,43 @@
 ghost use Rattle.std.specs.Prelude.{◌≡◌, ◌≤◌, ◌+◌, ◌↔◌, [], ◌∷◌, ◌++◌, length, All, IsTrue, IfOk, OnOk, OnErr};
 ghost use Rattle.geo_rect.specs.Plane.{IsBounded};
 ghost use Rattle.route_law.specs.Covers.{IsReachedBefore};
+ghost use Rattle.wavefront.specs.Chains.{corner};
 ghost use Rattle.wavefront.specs.Reached.{ComesBefore, IsInTime};
 
-use geo_rect::{LayerId, List, NoMemory, Rect, reach};
+use geo_rect::{LayerId, NoMemory, Rect, reach};
 use route_law::Entry;
 use std::alloc::Global;
+use std::collections::BTreeMap;
 use std::marker::Model;
+
+/// A layer, and the lower left point of a strip on it.
+type Corner = (u32, i32, i32);
 
 /// The fronts that are settled. Contracts see the list of their entries, in the order in which they
 /// were settled. The coordinates of each front lie between -2^25 and 2^25.
-#[derive(Debug, Drop)]
+///
+/// The entries of one corner are chained, from the latest to the first, so that those of a strip are
+/// found without a look at the others.
+#[derive(Drop)]
 pub struct Table {
-    settled: List<Entry>,
+    settled: Vec<Entry>,
+    /// For each entry the one before it of the same corner.
+    earlier: Vec<Option<usize>>,
+    /// The last entry of each corner.
+    latest: BTreeMap<Corner, usize>,
 }
 
 impl Model for Table {
     ghost use Rattle.std.specs.Prelude.{List as Items, All};
     ghost use Rattle.geo_rect.specs.Plane.{IsBounded};
     ghost use Rattle.route_law.specs.declared.certs.Entry.{Entry as Settled};
+    ghost use Rattle.wavefront.specs.Chains.{AreChained};
 
     ghost Value = { Items Settled };
 
-    ghost view = { λ t. t.settled };
+    ghost view = { λ t. t.settled.items };
 
-    ghost invariant = { λ t. All (λ e. IsBounded e.front) t.settled };
+    ghost invariant = { λ t. All (λ e. IsBounded e.front) t.settled.items × AreChained t.settled.items t.earlier.items t.latest };
 }
 
 impl Table {
@@ -35,7 +48,9 @@ impl Table {
         ensures { result ≡ [] }
     {
         Table {
-            settled: List::new(alloc),
+            settled: Vec::new(alloc),
+            earlier: Vec::new(alloc),
+            latest: BTreeMap::new(alloc),
         }
     }
 
@@ -45,10 +60,12 @@ impl Table {
         requires { IsBounded front }
         ensures { IsTrue result ↔ IsReachedBefore self.now (record { layer = layer; strip = strip; front = front; cost = cost }) }
     {
-        for e in self.settled.as_slice() {
-            if comes_before(*e, layer, strip, front, cost) {
+        let mut next = self.latest.get(&corner(layer, strip)).copied();
+        while let Some(number) = next {
+            if comes_before(self.settled[number], layer, strip, front, cost) {
                 return true;
             }
+            next = self.earlier[number];
         }
         false
     }
@@ -61,9 +78,15 @@ impl Table {
         ensures settled { OnOk result (self.new ≡ self.old ++ e ∷ []) }
         ensures err { OnErr result (self.new ≡ self.old) }
     {
-        let number = self.settled.len() as u64;
+        let number = self.settled.len();
+        let place = corner(e.layer, e.strip);
+        let before = self.latest.get(&place).copied();
+        self.settled.reserve(1)?;
+        self.earlier.reserve(1)?;
+        self.latest.insert(place, number)?;
         self.settled.push(e)?;
-        Ok(number)
+        self.earlier.push(before)?;
+        Ok(number as u64)
     }
 
     /// All settled fronts, in order.
@@ -73,6 +96,13 @@ impl Table {
     {
         self.settled.as_slice()
     }
+}
+
+/// The corner of a strip.
+fn corner(layer: LayerId, strip: Rect) -> Corner
+    ensures { result ≡ corner layer strip }
+{
+    (layer.0, strip.x0, strip.y0)
 }
 
 /// Whether the entry is one of this layer and strip and comes to each point of `front` for at most
