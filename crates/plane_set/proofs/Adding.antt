@@ -11,7 +11,7 @@ use Rattle.board_model.specs.Labels.{PlaneRule, Hits, does_hit, joined, with_sha
 use Rattle.board_model.proofs.LabelLaws.{label_among-push}
 use Rattle.board_model.proofs.LabelTests.{Decides-does_hit}
 use Rattle.plane_core.specs.Labels.{label_of, IsPlane}
-use Rattle.plane_set.specs.Drawings.{Drawing, IsBoardArea, Shows, HasOneMore}
+use Rattle.plane_set.specs.Drawings.{Drawing, IsBoardArea, IsBoardPlane, Shows, HasOneMore}
 use Rattle.plane_set.specs.Joins.{IsJoined}
 use Rattle.plane_set.proofs.Joining.{lies_from_points}
 
@@ -67,6 +67,13 @@ shows_more b rule shapes s old new more h = record {
   labels = λ p inside.
       let old_inside : HasPoint old.region p = subst (λ (r : Rect). HasPoint r p) more.region inside in
       more.labels p old_inside ∙ ap (λ (a : Label). with_shape rule p a s) (h.labels p old_inside) ∙ sym (label_among-push b rule p shapes s);
+  canonical = more.canonical;
+}
+
+-- a plane of the board with one more shape is one of the board
+pub board_plane_more : (b : BoardParts) (rule : PlaneRule) (s : Shape) (old new : Drawing) → HasOneMore rule s old new → IsBoardPlane b old → IsBoardPlane b new
+board_plane_more b rule s old new more h = record {
+  region = subst (λ (r : Rect). IsBoardArea b r) (sym more.region) h.region;
   canonical = more.canonical;
 }
 

@@ -7,8 +7,8 @@ use Rattle.std.proofs.lemmas.List.Elements.{All-nil, All-cons, All-head, All-tai
 use Rattle.board_model.specs.declared.parts.BoardParts.{BoardParts}
 use Rattle.board_model.specs.declared.shapes.Shape.{Shape}
 use Rattle.plane_set.specs.declared.families.Family.{Family}
-use Rattle.plane_set.specs.Drawings.{Drawing, drawn_rows, Shows}
-use Rattle.plane_set.specs.Families.{rule_in, class_at, IsRow, AreRows, HaveAllClasses}
+use Rattle.plane_set.specs.Drawings.{Drawing, drawn_rows, IsBoardPlane, Shows}
+use Rattle.plane_set.specs.Families.{rule_in, class_at, IsRow, AreRows, AreBoardPlanes, AreBoardRows, HaveAllClasses}
 use Rattle.plane_set.specs.Standing.{HasPlanes}
 use Rattle.plane_set.proofs.Places.{each_mapped, each_unmapped, get_mapped}
 
@@ -30,6 +30,21 @@ module _ {R A : Type 0} (planes_of : R → List A) (draw : A → Drawing) (b : B
       each_unmapped draw (λ c (d : Drawing). Shows b (rule_in b f n (class_at c)) shapes d) (planes_of row)
       (each_unmapped (λ (r : R). map draw (planes_of r)) (λ m (r : List Drawing). IsRow (λ (d : Drawing). d) b f m shapes r) rows h n row e)
 
+  pub planes_of_shown : (f : Family) (shapes : List Shape) (rows : List R) → AreRows planes_of draw b f shapes rows → AreBoardRows planes_of draw b rows
+  planes_of_shown f shapes rows h n row e m plane k =
+      let shown = h n row e m plane k in
+      record { region = shown.region; canonical = shown.canonical }
+
+  board_drawn : (rows : List R) → AreBoardRows planes_of draw b rows → AreBoardRows (λ (row : List Drawing). row) (λ (d : Drawing). d) b (drawn rows)
+  board_drawn rows h =
+      each_mapped (λ (row : R). map draw (planes_of row)) (λ n (row : List Drawing). AreBoardPlanes (λ (d : Drawing). d) b row) rows
+      (λ n row e. each_mapped draw (λ c (d : Drawing). IsBoardPlane b d) (planes_of row) (h n row e))
+
+  pub board_undrawn : (rows : List R) → AreBoardRows (λ (row : List Drawing). row) (λ (d : Drawing). d) b (drawn rows) → AreBoardRows planes_of draw b rows
+  board_undrawn rows h n row e =
+      each_unmapped draw (λ c (d : Drawing). IsBoardPlane b d) (planes_of row)
+      (each_unmapped (λ (r : R). map draw (planes_of r)) (λ m (r : List Drawing). AreBoardPlanes (λ (d : Drawing). d) b r) rows h n row e)
+
   classes_drawn : (rows : List R) → HaveAllClasses planes_of b rows → HaveAllClasses (λ (row : List Drawing). row) b (drawn rows)
   classes_drawn rows h =
       All-map (λ (row : List Drawing). length row ≡ length b.classes) (λ (row : R). map draw (planes_of row)) rows
@@ -43,12 +58,14 @@ module _ {R A : Type 0} (planes_of : R → List A) (draw : A → Drawing) (b : B
   pub drawn_length : (rows : List R) → length (drawn rows) ≡ length rows
   drawn_length rows = length-map rows (λ (row : R). map draw (planes_of row))
 
-  pub planes_drawn : (wires vias : List R) → length wires ≡ length b.layers → HaveAllClasses planes_of b wires → length vias ≡ length b.kinds → HaveAllClasses planes_of b vias → HasPlanes b (record { wires = drawn wires; vias = drawn vias })
-  planes_drawn wires vias l w k v = record {
+  pub planes_drawn : (wires vias : List R) → length wires ≡ length b.layers → HaveAllClasses planes_of b wires → AreBoardRows planes_of draw b wires → length vias ≡ length b.kinds → HaveAllClasses planes_of b vias → AreBoardRows planes_of draw b vias → HasPlanes b (record { wires = drawn wires; vias = drawn vias })
+  planes_drawn wires vias l w i k v j = record {
     layers = drawn_length wires ∙ l;
     wire_classes = classes_drawn wires w;
+    wire_planes = board_drawn wires i;
     kinds = drawn_length vias ∙ k;
     via_classes = classes_drawn vias v;
+    via_planes = board_drawn vias j;
   }
 
 -- the plane at a place of rows that show some shapes

@@ -29,6 +29,11 @@ pub record IsBoardArea (b : BoardParts) (r : Rect) : Type 0 where
   pub right : r.x1 ≡ b.width
   pub above : r.y1 ≡ b.height
 
+-- the plane has the points of the board, and its strips are those of its labels
+pub record IsBoardPlane (b : BoardParts) (d : Drawing) : Type 0 where
+  pub region : IsBoardArea b d.region
+  pub canonical : IsPlane d.region d.strips
+
 -- the plane shows the shapes: it has the points of the board, each with the label that the rule
 -- gives it among these shapes, and its strips are those of its labels
 pub record Shows (b : BoardParts) (rule : PlaneRule) (shapes : List Shape) (d : Drawing) : Type 0 where

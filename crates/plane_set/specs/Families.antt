@@ -6,7 +6,7 @@ use Rattle.board_model.specs.declared.shapes.Shape.{Shape}
 use Rattle.board_model.specs.Labels.{PlaneRule, wire_plane, via_plane}
 use Rattle.plane_set.specs.declared.families.Family.{Family}
 use Rattle.plane_set.specs.declared.families.Family.TheVariants.{Wires, Vias}
-use Rattle.plane_set.specs.Drawings.{Drawing, Shows}
+use Rattle.plane_set.specs.Drawings.{Drawing, IsBoardPlane, Shows}
 use Rattle.plane_set.specs.Places.{EachAt}
 
 -- the class of a number
@@ -30,6 +30,14 @@ IsRow {A} draw b f row shapes planes = EachAt (λ c (plane : A). Shows b (rule_i
 -- each row of a family is one whose planes each show these shapes
 abbrev pub AreRows : {R A : Type 0} → (R → List A) → (A → Drawing) → BoardParts → Family → List Shape → List R → Type 0
 AreRows {R} planes_of draw b f shapes rows = EachAt (λ n (row : R). IsRow draw b f n shapes (planes_of row)) rows
+
+-- each plane of a row is one of the board
+abbrev pub AreBoardPlanes : {A : Type 0} → (A → Drawing) → BoardParts → List A → Type 0
+AreBoardPlanes {A} draw b planes = EachAt (λ c (plane : A). IsBoardPlane b (draw plane)) planes
+
+-- each plane of each row is one of the board
+abbrev pub AreBoardRows : {R A : Type 0} → (R → List A) → (A → Drawing) → BoardParts → List R → Type 0
+AreBoardRows {R} planes_of draw b rows = EachAt (λ n (row : R). AreBoardPlanes draw b (planes_of row)) rows
 
 -- each row has one plane for each class
 abbrev pub HaveAllClasses : {R A : Type 0} → (R → List A) → BoardParts → List R → Type 0

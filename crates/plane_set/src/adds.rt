@@ -4,7 +4,7 @@ ghost use Rattle.std.specs.Prelude.{◌≡◌, ◌<◌, ◌∷◌, ◌++◌, [],
 ghost use Rattle.board_model.specs.declared.shapes.Shape.{Shape as OneShape};
 ghost use Rattle.board_model.specs.Known.{IsKnown};
 ghost use Rattle.plane_set.specs.Drawings.{drawing_by, HasOneMore};
-ghost use Rattle.plane_set.specs.Families.{rows_in, rule_in, IsRow, AreRows, HaveAllClasses};
+ghost use Rattle.plane_set.specs.Families.{rows_in, rule_in, IsRow, AreRows, AreBoardPlanes, AreBoardRows, HaveAllClasses};
 
 use crate::families::Family;
 use crate::joins::paint_shape;
@@ -51,6 +51,9 @@ fn add_to_row<P: Plane>(
     requires classes { length planes.items ≡ length board.now.parts.classes }
     requires known { IsKnown board.now.parts s.now }
     ensures classes { IfOk result (λ new. length new.items ≡ length planes.items) }
+    ensures planes { IfOk result (λ new.
+        AreBoardPlanes (drawing_by P.region P.strips) board.now.parts planes.items
+        → AreBoardPlanes (drawing_by P.region P.strips) board.now.parts new.items) }
     ensures shapes { IfOk result (λ new. (shapes : List OneShape)
         → IsRow (drawing_by P.region P.strips) board.now.parts family row shapes planes.items
         → IsRow (drawing_by P.region P.strips) board.now.parts family row (shapes ++ s.now ∷ []) new.items) }
@@ -77,6 +80,9 @@ pub fn add_to_rows<P: Plane>(
     requires known { IsKnown board.now.parts s.now }
     ensures rows { IfOk result (λ new. length new.items ≡ length rows.items) }
     ensures classes { IfOk result (λ new. HaveAllClasses vec_items board.now.parts new.items) }
+    ensures planes { IfOk result (λ new.
+        AreBoardRows vec_items (drawing_by P.region P.strips) board.now.parts rows.items
+        → AreBoardRows vec_items (drawing_by P.region P.strips) board.now.parts new.items) }
     ensures shapes { IfOk result (λ new. (shapes : List OneShape)
         → AreRows vec_items (drawing_by P.region P.strips) board.now.parts family shapes rows.items
         → AreRows vec_items (drawing_by P.region P.strips) board.now.parts family (shapes ++ s.now ∷ []) new.items) }

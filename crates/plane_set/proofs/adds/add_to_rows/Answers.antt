@@ -5,7 +5,7 @@ use Rattle.std.proofs.lemmas.List.Elements.{All-push}
 use Rattle.std.proofs.lemmas.Iterator.Consumers.{YieldsList-turn, YieldsList-end}
 use Rattle.std.proofs.lemmas.Iterator.Adapters.{YieldsList-from_vec}
 use Rattle.plane_set.specs.Drawings.{drawing_by}
-use Rattle.plane_set.specs.Families.{IsRow, AreRows, HaveAllClasses}
+use Rattle.plane_set.specs.Families.{IsRow, AreRows, AreBoardPlanes, AreBoardRows, HaveAllClasses}
 use Rattle.plane_set.proofs.Places.{each_more, length_both}
 use Rattle.plane_set.proofs.adds.add_to_rows.Goals as goal
 
@@ -31,10 +31,23 @@ loop-planes-preserved g c =
       row = ap (λ (n : ℕ). n + 1) m.row ∙ sym (length_push c.loop-planes.yielded old);
       added = length_both _ _ _ _ _ c.in_ok-push.ensures.items m.added;
       classes = subst Q (sym c.in_ok-push.ensures.items) (All-push (λ (r : Row). length (vec_items r) ≡ length b.classes) done new m.classes (c.in_ok-add_to_row.ensures.classes ∙ size));
+      planes = λ h.
+          let P : List Row → Type 0 = λ rows. AreBoardRows vec_items draw b rows in
+          subst P (sym c.in_ok-push.ensures.items) (each_more (λ n (r : Row). AreBoardPlanes draw b (vec_items r)) (λ n (r : Row). AreBoardPlanes draw b (vec_items r)) c.loop-planes.yielded done old new c.loop-planes.row m.row m.added m.planes c.in_ok-add_to_row.ensures.planes h);
       shapes = λ shapes h.
           let P : List Row → Type 0 = λ rows. AreRows vec_items draw b f (shapes ++ s ∷ []) rows in
           subst P (sym c.in_ok-push.ensures.items) (each_more (λ n (r : Row). IsRow draw b f n shapes (vec_items r)) (λ n (r : Row). IsRow draw b f n (shapes ++ s ∷ []) (vec_items r)) c.loop-planes.yielded done old new c.loop-planes.row m.row m.added (m.shapes shapes) (c.in_ok-add_to_row.ensures.shapes shapes) h);
     }
+
+pub returns-clause-planes : goal.returns-clause-planes
+returns-clause-planes g c =
+    let draw = drawing_by g.P.Plane.region g.P.Plane.strips in
+    let gives = c.into_iter-planes-iterator.ensures.into_iter_gives in
+    let all = c.args.rows.items in
+    let end = YieldsList-end (YieldsList-from_vec {s = c.into_iter-planes-iterator.result} all gives.0 (gives.1 ∙ c.args.rows.ok.0)) c.loop-planes.yielded c.loop-planes.planes-iterator c.loop-planes.yielded_by c.next.result c.next.new.self c.in-None.is c.next.ensures.steps in
+    let whole : c.loop-planes.yielded ≡ all = sym (map-id c.loop-planes.yielded) ∙ end.0 in
+    λ h. let P : List (Vec g.row.P.Denot Global) → Type 0 = λ rows. AreBoardRows vec_items draw c.args.board.now.parts rows in
+    c.loop-planes.invariant.planes (subst P (sym whole) h)
 
 pub returns-clause-shapes : goal.returns-clause-shapes
 returns-clause-shapes g c =

@@ -2,9 +2,9 @@ use Rattle.std.proofs.Common.{◌∷◌, ◌++◌, [], List, length, sym, ◌∙
 use Rattle.std.specs.Prelude.{vec_items}
 use Rattle.plane_set.specs.declared.families.Family.TheVariants.{Wires, Vias}
 use Rattle.plane_set.specs.Drawings.{Drawing, drawing_by}
-use Rattle.plane_set.specs.Families.{AreRows, HaveAllClasses}
+use Rattle.plane_set.specs.Families.{AreRows, AreBoardRows, HaveAllClasses}
 use Rattle.plane_set.specs.Standing.{PlaneTable}
-use Rattle.plane_set.proofs.Standing.{rows_drawn, rows_undrawn, classes_undrawn, drawn_length, planes_drawn}
+use Rattle.plane_set.proofs.Standing.{rows_drawn, rows_undrawn, board_undrawn, classes_undrawn, drawn_length, planes_drawn}
 use Rattle.plane_set.proofs.sets.PlaneSet.add.Goals as goal
 
 pub add_to_rows-requires-clause-classes : goal.add_to_rows-requires-clause-classes
@@ -28,8 +28,12 @@ returns-clause-planes g c =
     let old = c.self.inside in
     let w = sym (drawn_length vec_items draw b old.wires.items) ∙ ap (λ (t : PlaneTable). length t.wires) c.self.view_is ∙ c.requires.planes.layers in
     let v = sym (drawn_length vec_items draw b old.vias.items) ∙ ap (λ (t : PlaneTable). length t.vias) c.self.view_is ∙ c.requires.planes.kinds in
+    let board : List (List Drawing) → Type 0 = λ rows. AreBoardRows (λ (row : List Drawing). row) (λ (d : Drawing). d) b rows in
+    let old_wires = board_undrawn vec_items draw b old.wires.items (subst board (sym (ap (λ (t : PlaneTable). t.wires) c.self.view_is)) c.requires.planes.wire_planes) in
+    let old_vias = board_undrawn vec_items draw b old.vias.items (subst board (sym (ap (λ (t : PlaneTable). t.vias) c.self.view_is)) c.requires.planes.via_planes) in
     planes_drawn vec_items draw b c.in_ok-wires.wires.items c.in_ok-vias.vias.items
-    (c.in_ok-wires.ensures.rows ∙ w) c.in_ok-wires.ensures.classes (c.in_ok-vias.ensures.rows ∙ v) c.in_ok-vias.ensures.classes
+    (c.in_ok-wires.ensures.rows ∙ w) c.in_ok-wires.ensures.classes (c.in_ok-wires.ensures.planes old_wires)
+    (c.in_ok-vias.ensures.rows ∙ v) c.in_ok-vias.ensures.classes (c.in_ok-vias.ensures.planes old_vias)
 
 pub returns-clause-shapes : goal.returns-clause-shapes
 returns-clause-shapes g c =
