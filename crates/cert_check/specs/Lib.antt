@@ -1,0 +1,5 @@
+pub mod Bounds
+pub mod Fronts
+pub mod Passages
+pub mod Searches
+pub mod Stages

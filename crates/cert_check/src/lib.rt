@@ -1,0 +1,10 @@
+//! Whether a certificate is right, and whether a connection is a walk of its bound.
+//!
+//! All coordinates are whole micrometres, and a cost is counted in micrometres of wire.
+#![tactic(auto)]
+
+mod fronts;
+mod origins;
+mod passages;
+mod places;
+mod rects;
