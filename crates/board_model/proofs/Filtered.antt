@@ -1,5 +1,7 @@
 -- Where an item of a list stands among those that pass a test.
-use Rattle.std.proofs.Common.{◌≡◌, ℕ, zero, suc, ◌<◌, Bool, true, false, cond, List, [], ◌∷◌, length, get_or, filter, take, slice_get, Some, ap, sym, subst, ◌∙◌, refl, arith}
+use Rattle.std.proofs.Common.{◌≡◌, ℕ, zero, suc, ◌<◌, Bool, true, false, cond, List, [], ◌∷◌, length, get_or, filter, take, drop, slice_get, Some, ap, sym, subst, ◌∙◌, refl, arith}
+use Rattle.std.proofs.lemmas.List.{take-append-drop, take_at}
+use Rattle.std.proofs.lemmas.List.Elements.{filter-append}
 
 at_head : {X : Type 0} (b : Bool) (x y : X) (ys zs : List X) (n : ℕ) → slice_get ys n ≡ Some x → (n ≡ length zs) → slice_get (cond b (y ∷ ys) ys) (length (cond b (y ∷ zs) zs)) ≡ Some x
 at_head true x y ys zs n h e = subst (λ m. slice_get ys m ≡ Some x) e h
@@ -13,3 +15,8 @@ slice_get-filter p (y ∷ ys) zero x lt e h =
     ap (λ b. slice_get (cond b (y ∷ filter p ys) (filter p ys)) 0) here ∙ ap Some (sym e)
 slice_get-filter p (y ∷ ys) (suc i) x lt e h =
     at_head (p y) x y (filter p ys) (filter p (take i ys)) (length (filter p (take i ys))) (slice_get-filter p ys i x (omega arith) e h) refl
+
+-- the first that pass are those that pass among the first
+pub take-filter : {X : Type 0} (p : X → Bool) (xs : List X) (i n : ℕ) → n ≡ length (filter p (take i xs)) → take n (filter p xs) ≡ filter p (take i xs)
+take-filter p xs i n e =
+    ap (λ ys. take n (filter p ys)) (sym (take-append-drop i xs)) ∙ ap (take n) (filter-append p (take i xs) (drop i xs)) ∙ take_at (filter p (take i xs)) (filter p (drop i xs)) n (sym e)

@@ -4,6 +4,8 @@ pub mod LabelHits
 pub mod LabelLaws
 pub mod LabelTests
 pub mod Layers
+pub mod MadeShapes
 pub mod NameLists
 pub mod NameTables
+pub mod Squares
 pub mod StateShapes

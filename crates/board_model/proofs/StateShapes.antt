@@ -15,12 +15,12 @@ use Rattle.board_model.specs.Lookup.{layer_at, layers_from}
 use Rattle.board_model.specs.Rules.{IsBoard, IsSide, IsOnBoard, IsBlock, IsPin}
 use Rattle.board_model.specs.Shapes.{block_shape, net_shape, pin_shapes, board_shapes, made_shapes, state_shapes}
 
-All-flat_map : {X A : Type 0} (P : A → Type 0) (f : X → List A) (xs : List X) → All (λ x. All P (f x)) xs → All P (flat_map f xs)
+pub All-flat_map : {X A : Type 0} (P : A → Type 0) (f : X → List A) (xs : List X) → All (λ x. All P (f x)) xs → All P (flat_map f xs)
 All-flat_map P f [] h = All-nil P
 All-flat_map P f (x ∷ xs) h =
     All-append P (f x) (flat_map f xs) (All-head (λ y. All P (f y)) x xs h) (All-flat_map P f xs (All-tail (λ y. All P (f y)) x xs h))
 
-numbers_below : (a n top : ℕ) → (n ≡ 0 → a ≤ top) → a + n ≤ top → All (λ m. m < top) (range_with_len a n)
+pub numbers_below : (a n top : ℕ) → (n ≡ 0 → a ≤ top) → a + n ≤ top → All (λ m. m < top) (range_with_len a n)
 numbers_below a n top z h k d l =
     let i : k < n = omega (arith, length-range_with_len a n) in
     omega (arith, get_or-range_with_len a n k d i)

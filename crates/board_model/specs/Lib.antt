@@ -1,9 +1,12 @@
+pub mod Boxes
 pub mod Groups
 pub mod Known
 pub mod Labels
 pub mod Lookup
+pub mod Made
 pub mod Rules
 pub mod Segments
 pub mod Shapes
 pub mod Spacing
 pub mod Violations
+pub mod WellFormed

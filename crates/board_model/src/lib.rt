@@ -4,7 +4,9 @@
 
 mod accessors;
 mod boards;
+mod boxes;
 mod commands;
+mod conn_shapes;
 mod gaps;
 mod labels;
 mod limits;
@@ -15,6 +17,7 @@ mod net_pins;
 mod outlines;
 mod parts;
 mod rules;
+mod segments;
 mod shapes;
 mod states;
 #[cfg(test)]
@@ -22,7 +25,9 @@ mod tests;
 mod validity;
 
 pub use boards::Board;
+pub use boxes::{attach_boxes, target_boxes};
 pub use commands::Command;
+pub use conn_shapes::shapes_of;
 pub use labels::{
     hits_are_squares_too_close, labels_forget_shapes, labels_ignore_order, labels_say_what_hits,
     labels_take_shapes, passable_is_left_to_the_net,
@@ -31,7 +36,7 @@ pub use limits::{
     MAX_BLOCKS, MAX_CHARGE, MAX_CLASSES, MAX_COMMANDS, MAX_KINDS, MAX_LAYERS, MAX_MEASURE,
     MAX_NAME, MAX_NETS, MAX_PINS, MAX_SIDE,
 };
-pub use made::{Conn, Leg, Made};
+pub use made::{Conn, Leg, Made, copy_conns};
 pub use parts::{Block, BoardParts, Pin, Rule, ViaKind};
 pub use shapes::{Owned, Shape, Violation};
 pub use states::all_shapes;

@@ -1,4 +1,7 @@
-ghost use Rattle.std.specs.Prelude.{◌≡◌, ◌<◌, length, replicate, [], All, IfOk, slice_index_or};
+ghost use Rattle.std.specs.Prelude.{◌≡◌, ◌<◌, length, replicate, [], All, IfOk, OnOk, OnErr};
+ghost use Rattle.board_model.specs.Made.{conns_of, with_conn, without_conns};
+ghost use Rattle.board_model.specs.Shapes.{end_of};
+ghost use Rattle.board_model.specs.WellFormed.{AreWellFormed};
 
 use crate::boards::Board;
 use geo_rect::{KindId, List, NetId, NoMemory, Node};
@@ -10,6 +13,18 @@ use std::alloc::Global;
 pub enum Leg {
     Wire(Node),
     Via(KindId, Node),
+}
+
+impl Leg {
+    /// The node in which the leg ends.
+    pub fn end(self) -> Node
+        ensures { result ≡ end_of self }
+    {
+        match self {
+            Leg::Wire(to) => to,
+            Leg::Via(_, to) => to,
+        }
+    }
 }
 
 /// A connection: where it starts, its legs, and its stated cost in micrometres of wire.
@@ -33,6 +48,7 @@ impl Made {
             (λ m. m.lists ≡ replicate (length board.now.parts.net_names) []) }
         ensures nets { IfOk result (λ m. length m.lists ≡ length board.now.parts.net_names) }
         ensures none_made { IfOk result (λ m. All (λ conns. conns ≡ []) m.lists) }
+        ensures well_formed { IfOk result (λ m. AreWellFormed board.now.parts m.lists) }
     {
         let mut lists = List::new(alloc);
         for _net in 0..board.nets() {
@@ -44,8 +60,40 @@ impl Made {
     /// The connections of a net, in the order in which they were made.
     pub fn conns(&self, n: NetId) -> &[Conn]
         requires { n.0 < length self.now.lists }
-        ensures { result.now ≡ slice_index_or self.now.lists n.0 [] }
+        ensures { result.now ≡ conns_of self.now.lists n }
     {
         self.lists.as_slice()[n.0 as usize].as_slice()
     }
+
+    /// Adds a connection to a net, after those that it has. After `NoMemory` nothing has changed.
+    pub fn append(&mut self, n: NetId, conn: Conn) -> Result<(), NoMemory>
+        requires { n.0 < length self.old.lists }
+        ensures ok { OnOk result (self.new.lists ≡ with_conn self.old.lists n conn) }
+        ensures err { OnErr result (self.new.lists ≡ self.old.lists) }
+    {
+        self.lists.items[n.0 as usize].push(conn)
+    }
+
+    /// Removes the connections of a net. It takes no memory.
+    pub fn clear(&mut self, n: NetId)
+        requires { n.0 < length self.old.lists }
+        ensures { self.new.lists ≡ without_conns self.old.lists n }
+    {
+        self.lists.items[n.0 as usize].items.clear();
+    }
+}
+
+/// The same connections once more.
+pub fn copy_conns(alloc: Global, conns: &[Conn]) -> Result<List<Conn>, NoMemory>
+    ensures { IfOk result (λ list. list ≡ conns.now) }
+{
+    let mut list = List::new(alloc);
+    for conn in conns {
+        list.push(Conn {
+            start: conn.start,
+            legs: List::from_slice(alloc, conn.legs.as_slice())?,
+            cost: conn.cost,
+        })?;
+    }
+    Ok(list)
 }

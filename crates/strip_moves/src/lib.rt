@@ -1,0 +1,13 @@
+//! The ground on which a net walks over the planes of a board, the fronts in which it starts, and all
+//! moves from strip to strip.
+//!
+//! All coordinates are whole micrometres, and a cost is counted in micrometres of wire.
+#![tactic(auto)]
+
+mod laws;
+mod moves;
+mod starts;
+
+pub use laws::planes_are_a_ground;
+pub use moves::moves_of;
+pub use starts::starts_of;

@@ -1,0 +1,36 @@
+ghost use Rattle.std.specs.Prelude.{◌<◌, length, All, IfOk};
+ghost use Rattle.board_model.specs.Rules.{IsOnBoard};
+ghost use Rattle.plane_set.specs.Standing.{HasPlanes};
+ghost use Rattle.route_law.specs.declared.certs.Origin.TheVariants.{Source};
+ghost use Rattle.route_law.specs.Moves.{Arrival};
+ghost use Rattle.route_law.specs.Right.{IsStart};
+ghost use Rattle.strip_moves.specs.Grounds.{ground_of};
+ghost use Rattle.strip_moves.specs.Listed.{HasArrival, IsStartFrom};
+
+use board_model::Board;
+use geo_rect::{List, NetId, NoMemory, Spot};
+use plane_core::Plane;
+use plane_set::PlaneSet;
+use route_law::Entry;
+use std::alloc::Global;
+
+/// The starts of the source box of this number: what each strip of its layer that the net may pass
+/// has of it.
+pub fn starts_of<P: Plane>(
+    alloc: Global,
+    board: &Board,
+    planes: &PlaneSet<P>,
+    net: NetId,
+    number: u64,
+    source: Spot,
+) -> Result<List<Entry>, NoMemory>
+    requires planes { HasPlanes board.now.parts planes.now }
+    requires net { net.0 < length board.now.parts.net_names }
+    requires layer { source.layer.0 < length board.now.parts.layers }
+    requires area { IsOnBoard board.now.parts.width board.now.parts.height source.area }
+    ensures each { IfOk result (λ entries. All (IsStartFrom (ground_of board.now.parts planes.now net) source number) entries) }
+    ensures all { IfOk result (λ entries. (a : Arrival) → IsStart (ground_of board.now.parts planes.now net) source a
+        → HasArrival entries (Source number) a) }
+{
+    Err(NoMemory)
+}

@@ -1,0 +1,66 @@
+//! Whether a connection is a walk of a net, and its first bad corner.
+
+ghost use Rattle.std.specs.Prelude.{◌≡◌, ◌<◌, length, IfOk, IfSome, IfNone};
+ghost use Rattle.plane_set.specs.Standing.{HasPlanes};
+ghost use Rattle.route_law.specs.Walks.{last_node};
+ghost use Rattle.walk_check.specs.Corners.{HasPlaces, IsConnection, IsFirstBadCorner};
+ghost use Rattle.walk_check.specs.Grounds.{ground_of};
+
+use crate::costs::cost_of;
+use crate::legs::first_bad_leg;
+use crate::nodes::{has_node, is_good_start};
+use board_model::{Board, Conn};
+use geo_rect::{NetId, NoMemory, Node, Spot};
+use plane_core::Plane;
+use plane_set::PlaneSet;
+use std::alloc::Global;
+
+/// The node in which the connection ends.
+fn end_of(conn: &Conn) -> Node
+    ensures { result ≡ last_node conn.now.start conn.now.legs }
+{
+    let mut end = conn.start;
+    for leg in conn.legs.as_slice() {
+        end = leg.end();
+    }
+    end
+}
+
+/// The first bad corner of a connection, `None` where it is a walk of the net from a source box to a
+/// target box with its true cost. Corner 0 is the start; it is bad where no source box has it or the
+/// net may not pass it. Corner `k` is the node in which leg `k` ends, from 1; it is bad where the
+/// leg is malformed, leaves the board, or has a node or a via that the net may not pass. The last
+/// corner is bad also where no target box has it. One more than the last corner is named where the
+/// cost is not the walk's. The coordinates of the corners lie between -2^24 and 2^24.
+pub fn bad_corner<P: Plane>(
+    alloc: Global,
+    board: &Board,
+    planes: &PlaneSet<P>,
+    net: NetId,
+    sources: &[Spot],
+    targets: &[Spot],
+    conn: &Conn,
+) -> Result<Option<u64>, NoMemory>
+    requires planes { HasPlanes board.now.parts planes.now }
+    requires net { net.0 < length board.now.parts.net_names }
+    requires places { HasPlaces conn.now }
+    ensures some { IfOk result (λ bad. IfSome bad (λ k.
+        IsFirstBadCorner board.now.parts (ground_of board.now.parts planes.now net) sources.now targets.now conn.now k)) }
+    ensures none { IfOk result (λ bad. IfNone bad
+        (IsConnection board.now.parts (ground_of board.now.parts planes.now net) sources.now targets.now conn.now)) }
+{
+    if !is_good_start(board, planes, net, sources, conn.start) {
+        return Ok(Some(0));
+    }
+    if let Some(corner) = first_bad_leg(alloc, board, planes, net, conn)? {
+        return Ok(Some(corner));
+    }
+    let corners = conn.legs.len() as u64;
+    if !has_node(targets, end_of(conn)) {
+        return Ok(Some(corners));
+    }
+    if cost_of(board, conn) != conn.cost {
+        return Ok(Some(corners + 1));
+    }
+    Ok(None)
+}
