@@ -1,5 +1,5 @@
 //! Whether an entry comes from where its origin says.
-ghost use Rattle.std.specs.Prelude.{◌≡◌, ◌≢◌, ◌<◌, ◌↔◌, length, Contains, IsTrue, IfSome, IfNone, Some, slice_get};
+ghost use Rattle.std.specs.Prelude.{◌≡◌, ◌≢◌, ◌<◌, ◌↔◌, length, All, IsTrue, IfSome, IfNone, Some, slice_get};
 ghost use Rattle.geo_rect.specs.Plane.{ShareNoPoint};
 ghost use Rattle.plane_set.specs.Standing.{HasPlanes};
 ghost use Rattle.route_law.specs.declared.certs.Entry.{Entry as Item};
@@ -79,9 +79,9 @@ fn is_edge_move(from: Entry, to: Entry) -> bool
 
 /// Whether the entry of number `n` comes from the earlier one of number `m` across an edge.
 fn is_from_step(entries: &[Entry], n: usize, m: u64, e: Entry) -> bool
-    requires bounded { (x : Item) → Contains entries.now x → IsBoundedEntry x }
+    requires bounded { All IsBoundedEntry entries.now }
     requires here { IsBoundedEntry e }
-    requires apart { (x : Item) → Contains entries.now x → e.layer ≡ x.layer → e.strip ≢ x.strip → ShareNoPoint x.strip e.strip }
+    requires apart { All (λ x. e.layer ≡ x.layer → e.strip ≢ x.strip → ShareNoPoint x.strip e.strip) entries.now }
     ensures { (g : Ground) → IsWireStrip g e.layer e.strip
         → IsTrue result ↔ IsFromEntry entries.now n m (λ b. IsEdgeMove g b (arrival_of e)) }
 {
@@ -156,7 +156,7 @@ fn is_from_via<P: Plane>(
 ) -> bool
     requires planes { HasPlanes board.now.parts planes.now }
     requires net { net.0 < length board.now.parts.net_names }
-    requires bounded { (x : Item) → Contains entries.now x → IsBoundedEntry x }
+    requires bounded { All IsBoundedEntry entries.now }
     requires here { IsBoundedEntry e }
     requires placed { IsWireStrip (ground_of board.now.parts planes.now net) e.layer e.strip }
     ensures { IsTrue result ↔ IsFromEntry entries.now n m (λ b. IsViaMove (ground_of board.now.parts planes.now net) k b (arrival_of e)) }
