@@ -1,4 +1,6 @@
+pub mod Arriving
 pub mod Cases
+pub mod Covering
 pub mod Meets
 pub mod Moved
 pub mod Numbered

@@ -1,6 +1,8 @@
 -- Items of a list by their numbers.
-use Rattle.std.proofs.Common.{◌≡◌, ℕ, ◌<◌, List, Contains, Some, length, get_or, sym, ◌∙◌, ap}
+use Rattle.std.proofs.Common.{◌≡◌, ℕ, ◌+◌, ◌<◌, ◌≤◌, List, Contains, All, Some, length, get_or, take, sym, ◌∙◌, ap, subst}
 use Rattle.std.specs.Prelude.{slice_get}
+use Rattle.std.proofs.lemmas.List.{take_all}
+use Rattle.std.proofs.lemmas.List.Elements.{All-more, All-contains}
 use Rattle.std.proofs.lemmas.Option.{slice_get_within, get_or_from_slice_get, slice_get-get_or}
 
 pub one_numbered : {A : Type 0} (xs : List A) (n : ℕ) (x y : A) → slice_get xs n ≡ Some x → slice_get xs n ≡ Some y → x ≡ y
@@ -15,3 +17,16 @@ listed_numbered xs x h = (h.0, slice_get-get_or xs h.0 x h.1 ∙ ap Some h.2)
 -- an item that was read at a number has this number
 pub read_numbered : {A : Type 0} (xs : List A) (n : ℕ) (x : A) → n < length xs → x ≡ get_or xs n x → slice_get xs n ≡ Some x
 read_numbered xs n x l e = slice_get-get_or xs n x l ∙ ap Some (sym e)
+
+-- one more item that was read, and the end of the list
+pub all_read : {A : Type 0} (P : A → Type 0) (xs : List A) (i : ℕ) (x : A) → i < length xs → x ≡ get_or xs i x → All P (take i xs) → P x → All P (take (i + 1) xs)
+all_read P xs i x l e h p = All-more P xs i x l h (subst P e p)
+
+pub all_to_end : {A : Type 0} (P : A → Type 0) (xs : List A) (i : ℕ) → length xs ≤ i → All P (take i xs) → All P xs
+all_to_end {A} P xs i l h = let Q : List A → Type 0 = λ ys. All P ys in subst Q (take_all i xs l) h
+
+pub read_listed : {A : Type 0} (xs : List A) (i : ℕ) (x : A) → i < length xs → x ≡ get_or xs i x → Contains xs x
+read_listed xs i x l e = (i, l, sym e)
+
+pub none_listed : {A : Type 0} (P : A → Type 0) (xs : List A) (x : A) → All (λ y. P y → ⊥) xs → Contains xs x → P x → ⊥
+none_listed P xs x h c p = All-contains (λ y. P y → ⊥) xs x h c p

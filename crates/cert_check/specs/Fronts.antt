@@ -31,3 +31,11 @@ pub record IsFarFrom (d : ℕ) (a : Arrival) (box : Spot) : Type 0 where
 pub record IsBoundedEntry (e : Entry) : Type 0 where
   pub strip : IsBounded e.strip
   pub front : IsBounded e.front
+
+-- the coordinates of the entry's front lie between -2^25 and 2^25
+abbrev pub HasBoundedFront : Entry → Type 0
+HasBoundedFront e = IsBounded e.front
+
+-- the coordinates of the box lie between -2^25 and 2^25
+abbrev pub HasBoundedArea : Spot → Type 0
+HasBoundedArea box = IsBounded box.area

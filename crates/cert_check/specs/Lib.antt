@@ -1,4 +1,5 @@
 pub mod Bounds
+pub mod Boxes
 pub mod Fronts
 pub mod Passages
 pub mod Searches

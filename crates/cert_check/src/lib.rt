@@ -3,7 +3,9 @@
 //! All coordinates are whole micrometres, and a cost is counted in micrometres of wire.
 #![tactic(auto)]
 
+mod covers;
 mod fronts;
+mod moves;
 mod origins;
 mod passages;
 mod places;
