@@ -1,6 +1,8 @@
 pub mod Arriving
 pub mod Cases
+pub mod Costs
 pub mod Covering
+pub mod Leasts
 pub mod Meets
 pub mod Moved
 pub mod Numbered

@@ -1,6 +1,9 @@
--- The least of the numbers that have a property.
-use Rattle.std.specs.Prelude.{ℕ, ◌≤◌, List, Contains, Option, Some, None}
+-- What the ends of entries cost, and the least of them.
+use Rattle.std.specs.Prelude.{ℕ, ◌≡◌, ◌+◌, ◌≤◌, min, List, Contains, Option, Some, None}
 use Rattle.geo_rect.specs.declared.ids.Spot.{Spot}
+use Rattle.geo_rect.specs.declared.shapes.Rect.{Rect}
+use Rattle.geo_rect.specs.Distance.{IsDistance}
+use Rattle.geo_rect.specs.Plane.{IsMeet}
 use Rattle.route_law.specs.declared.certs.Entry.{Entry}
 use Rattle.route_law.specs.Right.{IsEnd}
 
@@ -13,6 +16,21 @@ pub record IsLeast (Has : ℕ → Type 0) (d : ℕ) : Type 0 where
 abbrev pub IsLeastOf : (ℕ → Type 0) → Option ℕ → Type 0
 IsLeastOf Has None = (n : ℕ) → Has n → ⊥
 IsLeastOf Has (Some d) = IsLeast Has d
+
+-- the lesser of two numbers, of which one or both may be absent
+abbrev pub lesser_of : Option ℕ → Option ℕ → Option ℕ
+lesser_of None b = b
+lesser_of (Some m) None = Some m
+lesser_of (Some m) (Some n) = Some (min m n)
+
+-- the entry comes to this target box, in its own strip, at this cost in all
+pub record IsEndAt (box : Spot) (e : Entry) (total : ℕ) : Type 0 where
+  pub same_layer : box.layer ≡ e.layer
+  pub common : Rect
+  pub is_common : IsMeet e.strip box.area common
+  pub way : ℕ
+  pub distance : IsDistance e.front common way
+  pub sum : total ≡ e.cost + way
 
 -- one of the entries comes to a target box at this cost in all
 pub record IsSomeEnd (targets : List Spot) (entries : List Entry) (total : ℕ) : Type 0 where

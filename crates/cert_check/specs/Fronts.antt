@@ -1,5 +1,5 @@
 -- The parts of which a move, a cover and an end are made, without the ground.
-use Rattle.std.specs.Prelude.{ℕ, ◌≡◌, ◌+◌, ◌≤◌, List, Contains}
+use Rattle.std.specs.Prelude.{ℕ, ◌≡◌, ◌+◌, ◌^◌, ◌<◌, ◌≤◌}
 use Rattle.geo_rect.specs.declared.ids.Spot.{Spot}
 use Rattle.geo_rect.specs.declared.shapes.Rect.{Rect}
 use Rattle.geo_rect.specs.Distance.{IsDistance, IsReach}
@@ -39,3 +39,7 @@ HasBoundedFront e = IsBounded e.front
 -- the coordinates of the box lie between -2^25 and 2^25
 abbrev pub HasBoundedArea : Spot → Type 0
 HasBoundedArea box = IsBounded box.area
+
+-- the entry's cost leaves room for sums
+abbrev pub HasSmallCost : Entry → Type 0
+HasSmallCost e = e.cost < 2 ^ 96

@@ -3,6 +3,7 @@
 //! All coordinates are whole micrometres, and a cost is counted in micrometres of wire.
 #![tactic(auto)]
 
+mod bounds;
 mod covers;
 mod fronts;
 mod moves;
