@@ -26,7 +26,7 @@ use Rattle.route_law.specs.Ground.{Ground, IsGround, IsPassableNode, IsWireStrip
 use Rattle.route_law.specs.Walks.{IsUnitStep, IsWalk, last_node}
 
 -- t is one unit from x on the way to y, or y itself
-data Toward (x y t : ℤ) : Type 0 where
+pub data Toward (x y t : ℤ) : Type 0 where
   rises : x <ℤ y → t ≡ x +ℤ pos 1 → Toward x y t
   falls : y <ℤ x → t ≡ x -ℤ pos 1 → Toward x y t
   stays : x ≡ y → t ≡ x → Toward x y t
@@ -39,7 +39,7 @@ toward_by x y false false e f =
     let m = not_from_Decides (int_lt y x) (Decides-int_lt y x) f in
     stays (omega (arith, ints, n, m)) refl
 
-toward_is : (x y : ℤ) → Toward x y (toward x y)
+pub toward_is : (x y : ℤ) → Toward x y (toward x y)
 toward_is x y = toward_by x y (int_lt x y) (int_lt y x) refl refl
 
 toward_nearer : (x y t : ℤ) (n : ℕ) → Toward x y t → between x y ≡ suc n → between t y ≡ n
@@ -57,7 +57,7 @@ toward_inside i x y t (rises h e) k l = record { from = omega (arith, ints); to 
 toward_inside i x y t (falls h e) k l = record { from = omega (arith, ints); to = omega (arith, ints) }
 toward_inside i x y t (stays h e) k l = record { from = omega (arith, ints); to = omega (arith, ints) }
 
-toward_stays : (x y t : ℤ) → Toward x y t → y ≡ x → t ≡ x
+pub toward_stays : (x y t : ℤ) → Toward x y t → y ≡ x → t ≡ x
 toward_stays x y t (rises h e) d = omega (arith, ints)
 toward_stays x y t (falls h e) d = omega (arith, ints)
 toward_stays x y t (stays h e) d = e
@@ -66,10 +66,10 @@ between_same : (x y : ℤ) → x ≡ y → between x y ≡ 0
 between_same x y e = omega (arith, ints)
 
 -- what one unit of the straight way from v to w does
-record IsUnitOn (v w u : Node) (n : ℕ) : Type 0 where
-  step : IsUnitStep v u
-  rest : apart (place_of u) (place_of w) ≡ n
-  straight : IsStraight u w
+pub record IsUnitOn (v w u : Node) (n : ℕ) : Type 0 where
+  pub step : IsUnitStep v u
+  pub rest : apart (place_of u) (place_of w) ≡ n
+  pub straight : IsStraight u w
 
 unit_in_line : (v w : Node) (n : ℕ) → w.layer ≡ v.layer → (w.x ≡ v.x) ⊎ (w.y ≡ v.y) → apart (place_of v) (place_of w) ≡ suc n → IsUnitOn v w (node_toward v w) n
 unit_in_line v w n l (inl e) d =
@@ -91,7 +91,7 @@ unit_in_line v w n l (inr e) d =
       straight = record { same_layer = l; in_line = inr (e ∙ sym same) };
     }
 
-unit_on : (v w : Node) (n : ℕ) → IsStraight v w → apart (place_of v) (place_of w) ≡ suc n → IsUnitOn v w (node_toward v w) n
+pub unit_on : (v w : Node) (n : ℕ) → IsStraight v w → apart (place_of v) (place_of w) ≡ suc n → IsUnitOn v w (node_toward v w) n
 unit_on v w n s d = unit_in_line v w n s.same_layer s.in_line d
 
 -- nodes of one layer that are no unit apart are one

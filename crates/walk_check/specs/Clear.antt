@@ -1,9 +1,10 @@
 -- What the net may pass of a plane, of a leg and of a node.
-use Rattle.std.specs.Prelude.{pos, List}
+use Rattle.std.specs.Prelude.{◌≡◌, pos, List}
 use Rattle.geo_rect.specs.declared.ids.KindId.{KindId}
 use Rattle.geo_rect.specs.declared.ids.LayerId.{LayerId}
 use Rattle.geo_rect.specs.declared.ids.NetId.{NetId}
 use Rattle.geo_rect.specs.declared.ids.Node.{Node}
+use Rattle.geo_rect.specs.declared.ids.Spot.{Spot}
 use Rattle.geo_rect.specs.declared.shapes.Point.{Point}
 use Rattle.geo_rect.specs.declared.shapes.Rect.{Rect}
 use Rattle.geo_rect.specs.Plane.{HasPoint}
@@ -42,3 +43,8 @@ pub record IsClearVia (g : Ground) (k : KindId) (w : Node) : Type 0 where
 abbrev pub IsClearLeg : Ground → Node → Leg → Type 0
 IsClearLeg g v (Wire w) = IsClearWire g v w
 IsClearLeg g v (Via k w) = IsClearVia g k w
+
+-- the box has the node
+pub record IsIn (box : Spot) (v : Node) : Type 0 where
+  pub same_layer : box.layer ≡ v.layer
+  pub has_point : HasPoint box.area (place_of v)

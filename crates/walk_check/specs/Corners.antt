@@ -16,7 +16,7 @@ use Rattle.walk_check.specs.Clear.{IsClearLeg}
 
 -- the connection is well formed, its steps are a walk from a source box to a target box, and its cost is
 -- that of the walk
-pub record IsConnection (b : BoardParts) (g : Ground) (sources targets : List Spot) (conn : Conn) : Type 0 where
+pub record IsConnection (b : BoardParts) (g : Ground) (conn : Conn) (sources targets : List Spot) : Type 0 where
   pub well_formed : IsWellFormed b conn
   pub walk : IsJoiningWalk g sources targets conn.start (steps_of conn)
   pub cost : walk_cost g (steps_of conn) ≡ conn.cost
@@ -42,16 +42,16 @@ pub record IsGoodLeg (b : BoardParts) (g : Ground) (v : Node) (leg : Leg) : Type
 
 -- what corner k must have: the first a good start, each other one a good leg that ends there, the last one
 -- a target box; and one more than the last stands for the cost
-pub record IsGoodCorner (b : BoardParts) (g : Ground) (sources targets : List Spot) (conn : Conn) (k : ℕ) : Type 0 where
+pub record IsGoodCorner (b : BoardParts) (g : Ground) (conn : Conn) (sources targets : List Spot) (k : ℕ) : Type 0 where
   pub at_start : k ≡ 0 → IsGoodStart g sources conn.start
   pub of_leg : (m : ℕ) (leg : Leg) → k ≡ m + 1 → slice_get conn.legs m ≡ Some leg → IsGoodLeg b g (corner_after conn.start conn.legs m) leg
   pub at_end : k ≡ length conn.legs → HasNode targets (last_node conn.start conn.legs)
   pub of_cost : k ≡ length conn.legs + 1 → walk_cost g (steps_of conn) ≡ conn.cost
 
 -- corner k is bad, and each one before it is good
-pub record IsFirstBadCorner (b : BoardParts) (g : Ground) (sources targets : List Spot) (conn : Conn) (k : ℕ) : Type 0 where
-  pub before : (j : ℕ) → j < k → IsGoodCorner b g sources targets conn j
-  pub bad : ¬ IsGoodCorner b g sources targets conn k
+pub record IsFirstBadCorner (b : BoardParts) (g : Ground) (conn : Conn) (sources targets : List Spot) (k : ℕ) : Type 0 where
+  pub before : (j : ℕ) → j < k → IsGoodCorner b g conn sources targets j
+  pub bad : ¬ IsGoodCorner b g conn sources targets k
 
 -- the first n of the legs from v are good
 abbrev pub AreGoodLegs : BoardParts → Ground → Node → List Leg → ℕ → Type 0

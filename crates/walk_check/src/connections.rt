@@ -1,10 +1,10 @@
 //! Whether a connection is a walk of a net, and its first bad corner.
 
-ghost use Rattle.std.specs.Prelude.{◌≡◌, ◌<◌, length, IfOk, IfSome, IfNone};
+ghost use Rattle.std.specs.Prelude.{◌≡◌, ◌<◌, ◌^◌, length, IfOk, IfSome, IfNone};
 ghost use Rattle.plane_set.specs.Standing.{HasPlanes};
 ghost use Rattle.route_law.specs.Walks.{last_node};
 ghost use Rattle.walk_check.specs.Corners.{HasPlaces, IsConnection, IsFirstBadCorner};
-ghost use Rattle.walk_check.specs.Grounds.{ground_of};
+ghost use Rattle.strip_moves.specs.Grounds.{ground_of};
 
 use crate::costs::cost_of;
 use crate::legs::first_bad_leg;
@@ -14,6 +14,14 @@ use geo_rect::{NetId, NoMemory, Node, Spot};
 use plane_core::Plane;
 use plane_set::PlaneSet;
 use std::alloc::Global;
+
+/// The number of legs. A list has fewer than 2^63 items.
+fn leg_count(conn: &Conn) -> u64
+    ensures exact { result ≡ length conn.now.legs }
+    ensures small { result < 2 ^ 63 }
+{
+    conn.legs.items.len() as u64
+}
 
 /// The node in which the connection ends.
 fn end_of(conn: &Conn) -> Node
@@ -45,9 +53,11 @@ pub fn bad_corner<P: Plane>(
     requires net { net.0 < length board.now.parts.net_names }
     requires places { HasPlaces conn.now }
     ensures some { IfOk result (λ bad. IfSome bad (λ k.
-        IsFirstBadCorner board.now.parts (ground_of board.now.parts planes.now net) sources.now targets.now conn.now k)) }
+        IsFirstBadCorner board.now.parts (ground_of board.now.parts planes.now net) conn.now sources.now targets.now k)) }
+    ensures bad { IfOk result (λ bad. IfSome bad (λ k.
+        IsConnection board.now.parts (ground_of board.now.parts planes.now net) conn.now sources.now targets.now → ⊥)) }
     ensures none { IfOk result (λ bad. IfNone bad
-        (IsConnection board.now.parts (ground_of board.now.parts planes.now net) sources.now targets.now conn.now)) }
+        (IsConnection board.now.parts (ground_of board.now.parts planes.now net) conn.now sources.now targets.now)) }
 {
     if !is_good_start(board, planes, net, sources, conn.start) {
         return Ok(Some(0));
@@ -55,7 +65,7 @@ pub fn bad_corner<P: Plane>(
     if let Some(corner) = first_bad_leg(alloc, board, planes, net, conn)? {
         return Ok(Some(corner));
     }
-    let corners = conn.legs.len() as u64;
+    let corners = leg_count(conn);
     if !has_node(targets, end_of(conn)) {
         return Ok(Some(corners));
     }

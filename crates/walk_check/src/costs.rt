@@ -5,11 +5,11 @@ ghost use Rattle.geo_rect.specs.declared.ids.NetId.{NetId as Net};
 ghost use Rattle.geo_rect.specs.Distance.{apart};
 ghost use Rattle.geo_rect.specs.Line.{between};
 ghost use Rattle.board_model.specs.Shapes.{place_of, end_of};
-ghost use Rattle.board_model.specs.WellFormed.{IsCoordinate, IsPlace, AreSteps};
+ghost use Rattle.board_model.specs.WellFormed.{IsCoordinate, IsPlace};
 ghost use Rattle.plane_set.specs.Standing.{PlaneTable};
 ghost use Rattle.route_law.specs.Connections.{cost_of_leg, cost_of_legs};
 ghost use Rattle.walk_check.specs.Corners.{HasPlaces, HasKind};
-ghost use Rattle.walk_check.specs.Grounds.{ground_of};
+ghost use Rattle.strip_moves.specs.Grounds.{ground_of};
 
 use board_model::{Board, Conn, Leg};
 use geo_rect::Node;

@@ -4,10 +4,9 @@ ghost use Rattle.std.specs.Prelude.{◌≡◌, ◌<◌, ◌↔◌, length, All, 
 ghost use Rattle.geo_rect.specs.Axis.{HasNumber, LiesWithin};
 ghost use Rattle.geo_rect.specs.Plane.{columns, rows, HasPoint, LiesIn};
 ghost use Rattle.board_model.specs.Labels.{Admits};
-ghost use Rattle.plane_core.specs.Labels.{IsPlane};
 ghost use Rattle.plane_set.specs.Standing.{HasPlanes};
 ghost use Rattle.walk_check.specs.Clear.{IsOpenAt, IsOpenIn};
-ghost use Rattle.walk_check.specs.Grounds.{ground_of};
+ghost use Rattle.strip_moves.specs.Grounds.{ground_of};
 
 use board_model::Board;
 use geo_rect::{Interval, KindId, Label, LayerId, NetId, NoMemory, Point, Rect};
@@ -140,7 +139,7 @@ pub fn is_open_in<P: Plane>(
     net: NetId,
     area: Rect,
 ) -> Result<bool, NoMemory>
-    ensures { IfOk result (λ open. IsTrue open ↔ IsOpenIn (P.region plane.now) (P.strips plane.now) net area) }
+    ensures { IfOk result (λ opened. IsTrue opened ↔ IsOpenIn (P.region plane.now) (P.strips plane.now) net area) }
 {
     if !lies_in(area, plane.domain()) {
         return Ok(false);

@@ -4,12 +4,11 @@ ghost use Rattle.std.specs.Prelude.{◌≡◌, ◌<◌, ◌↔◌, pos, length, 
 ghost use Rattle.board_model.specs.Labels.{IsInSpan};
 ghost use Rattle.board_model.specs.Segments.{stretch, segment};
 ghost use Rattle.board_model.specs.Shapes.{place_of, end_of};
-ghost use Rattle.board_model.specs.WellFormed.{IsCoordinate, IsPlace, IsWire, IsVia};
+ghost use Rattle.board_model.specs.WellFormed.{IsPlace, IsWire, IsVia};
 ghost use Rattle.plane_set.specs.Standing.{HasPlanes};
 ghost use Rattle.walk_check.specs.Clear.{IsClearWire};
 ghost use Rattle.walk_check.specs.Corners.{HasPlaces, IsGoodLeg, AreGoodLegs, IsFirstBadLeg};
-ghost use Rattle.walk_check.specs.Grounds.{ground_of};
-ghost use Rattle.board_model.specs.declared.made.Leg.TheVariants.{Wire, Via};
+ghost use Rattle.strip_moves.specs.Grounds.{ground_of};
 
 use crate::grounds::{is_open_in, wire_ground};
 use crate::nodes::is_clear_via;

@@ -5,10 +5,9 @@ ghost use Rattle.board_model.specs.Shapes.{place_of};
 ghost use Rattle.plane_set.specs.Standing.{HasPlanes};
 ghost use Rattle.route_law.specs.Ground.{IsPassableNode, IsPassableVia};
 ghost use Rattle.route_law.specs.Walks.{HasNode};
-ghost use Rattle.walk_check.specs.Clear.{IsClearVia};
+ghost use Rattle.walk_check.specs.Clear.{IsClearVia, IsIn};
 ghost use Rattle.walk_check.specs.Corners.{IsGoodStart};
-ghost use Rattle.walk_check.specs.Grounds.{ground_of};
-ghost use Rattle.geo_rect.specs.Plane.{HasPoint};
+ghost use Rattle.strip_moves.specs.Grounds.{ground_of};
 
 use crate::grounds::{has_point, is_open_at, via_ground, wire_ground};
 use board_model::Board;
@@ -24,12 +23,7 @@ pub fn place_of(v: Node) -> Point
 }
 
 /// Whether the net may pass the node.
-pub fn is_passable_node<P: Plane>(
-    board: &Board,
-    planes: &PlaneSet<P>,
-    net: NetId,
-    v: Node,
-) -> bool
+pub fn is_passable_node<P: Plane>(board: &Board, planes: &PlaneSet<P>, net: NetId, v: Node) -> bool
     requires planes { HasPlanes board.now.parts planes.now }
     requires net { net.0 < length board.now.parts.net_names }
     ensures { IsTrue result ↔ IsPassableNode (ground_of board.now.parts planes.now net) v }
@@ -76,8 +70,8 @@ pub fn is_clear_via<P: Plane>(
 }
 
 /// Whether the box has the node.
-fn is_node_of(v: Node, spot: Spot) -> bool
-    ensures { IsTrue result ↔ ((spot.layer ≡ v.layer) × HasPoint spot.area (place_of v)) }
+fn is_in(spot: Spot, v: Node) -> bool
+    ensures { IsTrue result ↔ IsIn spot v }
 {
     if spot.layer.0 != v.layer.0 {
         return false;
@@ -89,7 +83,12 @@ fn is_node_of(v: Node, spot: Spot) -> bool
 pub fn has_node(boxes: &[Spot], v: Node) -> bool
     ensures { IsTrue result ↔ HasNode boxes.now v }
 {
-    boxes.iter().any(|spot| is_node_of(v, *spot))
+    for spot in boxes {
+        if is_in(*spot, v) {
+            return true;
+        }
+    }
+    false
 }
 
 /// Whether a source box has the node, and the net may pass it.
