@@ -1,1 +1,10 @@
+pub mod AllMoves
+pub mod Away
+pub mod Boards
+pub mod ByVias
+pub mod Found
+pub mod Gains
 pub mod Grounds
+pub mod InBoxes
+pub mod Sides
+pub mod Ways

@@ -4,8 +4,14 @@
 //! All coordinates are whole micrometres, and a cost is counted in micrometres of wire.
 #![tactic(auto)]
 
+mod departures;
+mod edges;
+mod jumps;
+mod labels;
 mod laws;
 mod moves;
+mod net_planes;
+mod spans;
 mod starts;
 
 pub use laws::planes_are_a_ground;

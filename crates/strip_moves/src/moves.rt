@@ -1,17 +1,25 @@
-ghost use Rattle.std.specs.Prelude.{◌+◌, ◌^◌, ◌<◌, length, All, IfOk};
+ghost use Rattle.std.specs.Prelude.{◌+◌, ◌^◌, ◌<◌, length, All, IfOk, OnOk};
 ghost use Rattle.geo_rect.specs.declared.ids.KindId.{KindId};
+ghost use Rattle.geo_rect.specs.Plane.{LiesIn};
 ghost use Rattle.plane_set.specs.Standing.{HasPlanes};
 ghost use Rattle.route_law.specs.declared.certs.Origin.TheVariants.{Step, Via};
 ghost use Rattle.route_law.specs.Moves.{Arrival, arrival_of, IsEdgeMove, IsViaMove};
 ghost use Rattle.route_law.specs.Right.{IsWellPlaced};
-ghost use Rattle.strip_moves.specs.Grounds.{ground_of};
+ghost use Rattle.strip_moves.specs.Departures.{IsOpen};
+ghost use Rattle.strip_moves.specs.Gains.{Gains};
+ghost use Rattle.strip_moves.specs.Grounds.{board_area, ground_of};
 ghost use Rattle.strip_moves.specs.Listed.{HasArrival, IsMoveFrom};
 
+use crate::departures::Departure;
+use crate::edges::push_steps;
+use crate::jumps::push_jumps;
+use crate::net_planes::{vias_of, wires_of};
+use crate::spans::other_layer;
 use board_model::Board;
-use geo_rect::{List, NetId, NoMemory};
+use geo_rect::{KindId, List, NetId, NoMemory};
 use plane_core::Plane;
 use plane_set::PlaneSet;
-use route_law::Entry;
+use route_law::{Entry, Origin};
 use std::alloc::Global;
 
 /// All moves of an entry, which is the one of this number.
@@ -35,5 +43,51 @@ pub fn moves_of<P: Plane>(
         → IsViaMove (ground_of board.now.parts planes.now net) k (arrival_of from) a
         → HasArrival entries (Via number k) a) }
 {
-    Err(NoMemory)
+    let mut moves = List::new(alloc);
+    let steps = Departure {
+        net,
+        from,
+        origin: Origin::Step(number),
+        layer: from.layer,
+        charge: 0,
+    };
+    let plane = wires_of(board, planes, net, from.layer);
+    push_steps(alloc, plane, &mut moves, steps)?;
+    for kind in 0..board.kinds() {
+        push_jumps_by(alloc, board, planes, &mut moves, steps, number, KindId(kind))?;
+    }
+    Ok(moves)
+}
+
+/// Adds the moves by vias of kind `k` from the entry of this number, which the net leaves.
+fn push_jumps_by<P: Plane>(
+    alloc: Global,
+    board: &Board,
+    planes: &PlaneSet<P>,
+    moves: &mut List<Entry>,
+    d: Departure,
+    number: u64,
+    k: KindId,
+) -> Result<(), NoMemory>
+    requires planes { HasPlanes board.now.parts planes.now }
+    requires net { d.net.0 < length board.now.parts.net_names }
+    requires kind { k.0 < length board.now.parts.kinds }
+    requires open { IsOpen d }
+    requires inside { LiesIn d.from.strip (board_area board.now.parts) }
+    ensures { OnOk result (Gains moves.old moves.new (Via number k) (IsViaMove (ground_of board.now.parts planes.now d.net) k (arrival_of d.from))) }
+{
+    let kind = board.kind(k);
+    let Some(layer) = other_layer(kind, d.from.layer) else {
+        return Ok(());
+    };
+    let jumps = Departure {
+        net: d.net,
+        from: d.from,
+        origin: Origin::Via(number, k),
+        layer,
+        charge: kind.charge,
+    };
+    let vias = vias_of(board, planes, d.net, k);
+    let plane = wires_of(board, planes, d.net, layer);
+    push_jumps(alloc, vias, plane, moves, jumps)
 }

@@ -1,17 +1,21 @@
-ghost use Rattle.std.specs.Prelude.{◌<◌, length, All, IfOk};
+ghost use Rattle.std.specs.Prelude.{◌<◌, length, All, IfOk, OnOk};
 ghost use Rattle.board_model.specs.Rules.{IsOnBoard};
 ghost use Rattle.plane_set.specs.Standing.{HasPlanes};
 ghost use Rattle.route_law.specs.declared.certs.Origin.TheVariants.{Source};
 ghost use Rattle.route_law.specs.Moves.{Arrival};
 ghost use Rattle.route_law.specs.Right.{IsStart};
+ghost use Rattle.strip_moves.specs.Gains.{Gains};
 ghost use Rattle.strip_moves.specs.Grounds.{ground_of};
 ghost use Rattle.strip_moves.specs.Listed.{HasArrival, IsStartFrom};
+ghost use Rattle.strip_moves.specs.Ways.{IsStartIn};
 
+use crate::labels::admits;
+use crate::net_planes::wires_of;
 use board_model::Board;
-use geo_rect::{List, NetId, NoMemory, Spot};
-use plane_core::Plane;
+use geo_rect::{List, NetId, NoMemory, Spot, meet};
+use plane_core::{Plane, Strip};
 use plane_set::PlaneSet;
-use route_law::Entry;
+use route_law::{Entry, Origin};
 use std::alloc::Global;
 
 /// The starts of the source box of this number: what each strip of its layer that the net may pass
@@ -32,5 +36,37 @@ pub fn starts_of<P: Plane>(
     ensures all { IfOk result (λ entries. (a : Arrival) → IsStart (ground_of board.now.parts planes.now net) source a
         → HasArrival entries (Source number) a) }
 {
-    Err(NoMemory)
+    let mut starts = List::new(alloc);
+    let plane = wires_of(board, planes, net, source.layer);
+    let found = plane.strips_in(alloc, source.area)?;
+    for u in found.as_slice() {
+        push_start(&mut starts, net, number, source, *u)?;
+    }
+    Ok(starts)
+}
+
+/// Adds what the strip `u` of the layer of the source box has of it, if the net may pass `u`.
+fn push_start(
+    starts: &mut List<Entry>,
+    net: NetId,
+    number: u64,
+    source: Spot,
+    u: Strip,
+) -> Result<(), NoMemory>
+    ensures { OnOk result (Gains starts.old starts.new (Source number) (IsStartIn source net u)) }
+{
+    if !admits(u.label, net) {
+        return Ok(());
+    }
+    let Some(front) = meet(u.area, source.area) else {
+        return Ok(());
+    };
+    let start = Entry {
+        layer: source.layer,
+        strip: u.area,
+        front,
+        cost: 0,
+        origin: Origin::Source(number),
+    };
+    starts.push(start)
 }
