@@ -4,3 +4,4 @@ pub mod Fronts
 pub mod Passages
 pub mod Searches
 pub mod Stages
+pub mod Verdicts

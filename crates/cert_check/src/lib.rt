@@ -9,5 +9,10 @@ mod fronts;
 mod moves;
 mod origins;
 mod passages;
+mod paths;
 mod places;
 mod rects;
+mod searches;
+mod verdicts;
+
+pub use verdicts::{Verdict, Why, check};
