@@ -77,7 +77,9 @@ pub fn first_uncovered_start<P: Plane>(
     ensures { IfOk result (λ first. IsSearched (Started (ground_of board.now.parts planes.now net) targets.now cert.now) sources.now first) }
 {
     for n in 0..sources.len() {
-        if !are_starts_covered(alloc, board, planes, net, targets, cert, n as u64, sources[n])? {
+        let covered =
+            are_starts_covered(alloc, board, planes, net, targets, cert, n as u64, sources[n])?;
+        if !covered {
             return Ok(Some(n as u64));
         }
     }
@@ -104,7 +106,9 @@ pub fn first_uncovered_move<P: Plane>(
 {
     let entries = cert.entries.as_slice();
     for n in 0..entries.len() {
-        if !are_moves_covered(alloc, board, planes, net, targets, cert, n as u64, entries[n])? {
+        let covered =
+            are_moves_covered(alloc, board, planes, net, targets, cert, n as u64, entries[n])?;
+        if !covered {
             return Ok(Some(n as u64));
         }
     }

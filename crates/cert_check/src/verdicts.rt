@@ -77,18 +77,19 @@ pub fn check<P: Plane>(
     if let Some(entry) = first_unfounded(board, planes, net, sources, entries) {
         return Ok(Verdict::No { entry, why: Why::Origin });
     }
-    if let Some(entry) =
-        first_uncovered_start(alloc, board, planes, net, sources, targets, cert)?
-    {
+    let start = first_uncovered_start(alloc, board, planes, net, sources, targets, cert)?;
+    if let Some(entry) = start {
         return Ok(Verdict::No { entry, why: Why::CoverSource });
     }
-    if let Some(entry) = first_uncovered_move(alloc, board, planes, net, targets, cert)? {
+    let from = first_uncovered_move(alloc, board, planes, net, targets, cert)?;
+    if let Some(entry) = from {
         return Ok(Verdict::No { entry, why: Why::Cover });
     }
     if !is_bound(targets, cert) {
         return Ok(Verdict::No { entry: 0, why: Why::Bound });
     }
-    if !is_match(alloc, board, planes, net, sources, targets, conn, cert.bound)? {
+    let matches = is_match(alloc, board, planes, net, sources, targets, conn, cert.bound)?;
+    if !matches {
         return Ok(Verdict::No { entry: 0, why: Why::Path });
     }
     Ok(Verdict::Yes)
