@@ -2,6 +2,7 @@ pub mod Arriving
 pub mod Cases
 pub mod Costs
 pub mod Covering
+pub mod Judging
 pub mod Leasts
 pub mod Meets
 pub mod Moved
