@@ -25,13 +25,13 @@ module _ (P Q R : ℕ → Type 0) (e : IsEither P Q R) where
   least_first : (m : ℕ) → IsLeast P m → ((n : ℕ) → Q n → m ≤ n) → IsLeast R m
   least_first m p q = record {
     there = e.first m p.there;
-    least = λ k r. elim (e.cases k r) [ | inl h ↦ p.least k h | inr h ↦ q k h ];
+    least = λ k r. elim (e.cases k r) [ inl h ↦ p.least k h | inr h ↦ q k h ];
   }
 
   least_second : (m : ℕ) → IsLeast Q m → ((n : ℕ) → P n → m ≤ n) → IsLeast R m
   least_second m q p = record {
     there = e.second m q.there;
-    least = λ k r. elim (e.cases k r) [ | inl h ↦ p k h | inr h ↦ q.least k h ];
+    least = λ k r. elim (e.cases k r) [ inl h ↦ p k h | inr h ↦ q.least k h ];
   }
 
   least_min : (m n : ℕ) → IsLeast P m → IsLeast Q n → (m < n) ⊎ (n ≤ m) → IsLeast R (min m n)
@@ -43,7 +43,7 @@ module _ (P Q R : ℕ → Type 0) (e : IsEither P Q R) where
       subst (IsLeast R) is (least_second n q (λ k i. let l = p.least k i in omega arith))
 
   pub least_of_either : (a b : Option ℕ) → IsLeastOf P a → IsLeastOf Q b → IsLeastOf R (lesser_of a b)
-  least_of_either None None p q = λ n r. elim (e.cases n r) [ | inl h ↦ p n h | inr h ↦ q n h ]
+  least_of_either None None p q = λ n r. elim (e.cases n r) [ inl h ↦ p n h | inr h ↦ q n h ]
   least_of_either None (Some n) p q = least_second n q (λ k h. absurd (p k h))
   least_of_either (Some m) None p q = least_first m p (λ k h. absurd (q k h))
   least_of_either (Some m) (Some n) p q = least_min m n p q (cases_lt m n)

@@ -13,6 +13,8 @@ mod paths;
 mod places;
 mod rects;
 mod searches;
+#[cfg(test)]
+mod tests;
 mod verdicts;
 
 pub use verdicts::{Verdict, Why, check};

@@ -13,12 +13,7 @@ use plane_set::PlaneSet;
 use route_law::Entry;
 
 /// Whether the entry's strip is one that the net may pass, and has the front.
-pub fn is_well_placed<P: Plane>(
-    board: &Board,
-    planes: &PlaneSet<P>,
-    net: NetId,
-    e: Entry,
-) -> bool
+pub fn is_well_placed<P: Plane>(board: &Board, planes: &PlaneSet<P>, net: NetId, e: Entry) -> bool
     requires planes { HasPlanes board.now.parts planes.now }
     requires net { net.0 < length board.now.parts.net_names }
     ensures { IsTrue result ↔ IsWellPlaced (ground_of board.now.parts planes.now net) e }

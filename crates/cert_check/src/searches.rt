@@ -77,8 +77,9 @@ pub fn first_uncovered_start<P: Plane>(
     ensures { IfOk result (λ first. IsSearched (Started (ground_of board.now.parts planes.now net) targets.now cert.now) sources.now first) }
 {
     for n in 0..sources.len() {
-        let covered =
-            are_starts_covered(alloc, board, planes, net, targets, cert, n as u64, sources[n])?;
+        let covered = are_starts_covered(
+            alloc, board, planes, net, targets, cert, n as u64, sources[n],
+        )?;
         if !covered {
             return Ok(Some(n as u64));
         }
@@ -106,8 +107,9 @@ pub fn first_uncovered_move<P: Plane>(
 {
     let entries = cert.entries.as_slice();
     for n in 0..entries.len() {
-        let covered =
-            are_moves_covered(alloc, board, planes, net, targets, cert, n as u64, entries[n])?;
+        let covered = are_moves_covered(
+            alloc, board, planes, net, targets, cert, n as u64, entries[n],
+        )?;
         if !covered {
             return Ok(Some(n as u64));
         }

@@ -41,10 +41,7 @@ pub enum Verdict {
     Yes,
     /// The first entry, or source box, that is not right, from 0; it is 0 where the bound or the
     /// connection is not right.
-    No {
-        entry: u64,
-        why: Why,
-    },
+    No { entry: u64, why: Why },
 }
 
 /// Whether the certificate is right for the net with these source boxes and target boxes, and the
@@ -72,25 +69,45 @@ pub fn check<P: Plane>(
 {
     let entries = cert.entries.as_slice();
     if let Some(entry) = first_misplaced(board, planes, net, entries) {
-        return Ok(Verdict::No { entry, why: Why::Strip });
+        return Ok(Verdict::No {
+            entry,
+            why: Why::Strip,
+        });
     }
     if let Some(entry) = first_unfounded(board, planes, net, sources, entries) {
-        return Ok(Verdict::No { entry, why: Why::Origin });
+        return Ok(Verdict::No {
+            entry,
+            why: Why::Origin,
+        });
     }
     let start = first_uncovered_start(alloc, board, planes, net, sources, targets, cert)?;
     if let Some(entry) = start {
-        return Ok(Verdict::No { entry, why: Why::CoverSource });
+        return Ok(Verdict::No {
+            entry,
+            why: Why::CoverSource,
+        });
     }
     let from = first_uncovered_move(alloc, board, planes, net, targets, cert)?;
     if let Some(entry) = from {
-        return Ok(Verdict::No { entry, why: Why::Cover });
+        return Ok(Verdict::No {
+            entry,
+            why: Why::Cover,
+        });
     }
     if !is_bound(targets, cert) {
-        return Ok(Verdict::No { entry: 0, why: Why::Bound });
+        return Ok(Verdict::No {
+            entry: 0,
+            why: Why::Bound,
+        });
     }
-    let matches = is_match(alloc, board, planes, net, sources, targets, conn, cert.bound)?;
+    let matches = is_match(
+        alloc, board, planes, net, sources, targets, conn, cert.bound,
+    )?;
     if !matches {
-        return Ok(Verdict::No { entry: 0, why: Why::Path });
+        return Ok(Verdict::No {
+            entry: 0,
+            why: Why::Path,
+        });
     }
     Ok(Verdict::Yes)
 }

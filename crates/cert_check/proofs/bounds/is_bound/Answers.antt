@@ -13,8 +13,7 @@ returns c =
     let found = c.least_end.result in
     let P : List Entry → Type 0 = λ es. IsLeastOf (IsSomeEnd targets es) found in
     let l = subst P c.as_slice.ensures c.least_end.ensures in
-    let Q : Option ℕ → Type 0 = λ o. IsBoundOf targets entries o in
-    (
+    let Q : Option ℕ → Type 0 = λ o. IsBoundOf targets entries o in (
       λ t. subst Q (c.same_number.ensures.0 t) (bound_from_least targets entries found l),
       λ h. c.same_number.ensures.1 (least_of_one (IsSomeEnd targets entries) found bound l (least_from_bound targets entries bound h)),
     )

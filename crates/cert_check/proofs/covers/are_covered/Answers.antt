@@ -11,8 +11,7 @@ loop-arrival-preserved c =
     (c.is_covered.ensures.0 c.if-not-is_covered.false)
 
 pub returns : goal.returns
-returns c =
-    (
-      λ t. all_to_end (λ (e : Entry). IsCovered c.args.targets.now c.args.cert.now (arrival_of e)) c.args.arrivals.now c.loop-arrival.arrival-index (omega arith) c.loop-arrival.invariant,
-      λ h. refl,
-    )
+returns c = (
+  λ t. all_to_end (λ (e : Entry). IsCovered c.args.targets.now c.args.cert.now (arrival_of e)) c.args.arrivals.now c.loop-arrival.arrival-index (omega arith) c.loop-arrival.invariant,
+  λ h. refl,
+)

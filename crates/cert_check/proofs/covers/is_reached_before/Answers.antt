@@ -10,8 +10,7 @@ use Rattle.cert_check.proofs.covers.is_reached_before.Goals as goal
 pub returns-then-comes_before : goal.returns-then-comes_before
 returns-then-comes_before c =
     let entries = c.args.entries.now in
-    let x = c.e-item.result in
-    (
+    let x = c.e-item.result in (
       λ t. reached_by entries x (arrival_of c.args.arrival) (read_listed entries c.loop-e.e-index x (omega arith) c.e-item.is) (c.comes_before.ensures.0 c.if-comes_before.true),
       λ r. refl,
     )
@@ -24,8 +23,7 @@ loop-e-preserved c =
 
 pub returns : goal.returns
 returns c =
-    let a = arrival_of c.args.arrival in
-    (
+    let a = arrival_of c.args.arrival in (
       λ t. absurd (not_true t),
       λ r. absurd (reached_by_none c.args.entries.now a (all_to_end (λ (e : Entry). ComesBefore e a → ⊥) c.args.entries.now c.loop-e.e-index (omega arith) c.loop-e.invariant) r),
     )

@@ -11,8 +11,7 @@ pub returns-then-not-is_far_from : goal.returns-then-not-is_far_from
 returns-then-not-is_far_from c =
     let a = arrival_of c.args.arrival in
     let targets = c.args.targets.now in
-    let x = c.target-item.result in
-    (
+    let x = c.target-item.result in (
       λ t. absurd (not_true t),
       λ l. absurd (not_both (c.is_far_from.ensures.1 (late_for_each targets c.args.d a x (read_listed targets c.loop-target.target-index x (omega arith) c.target-item.is) l)) c.if-not-is_far_from.true),
     )
@@ -23,8 +22,7 @@ loop-target-preserved c =
 
 pub returns : goal.returns
 returns c =
-    let a = arrival_of c.args.arrival in
-    (
+    let a = arrival_of c.args.arrival in (
       λ t. late_by_all c.args.targets.now c.args.d a c.requires.some (all_to_end (IsFarFrom c.args.d a) c.args.targets.now c.loop-target.target-index (omega arith) c.loop-target.invariant),
       λ l. refl,
     )

@@ -7,8 +7,7 @@ use Rattle.cert_check.proofs.fronts.comes_before.Goals as goal
 pub returns : goal.returns
 returns c =
     let e = c.args.e in
-    let a = c.args.arrival in
-    (
+    let a = c.args.arrival in (
       λ t. record {
         same_layer = ap layer_at c.if-e-arrival.false;
         same_strip = c.same_rect.ensures.0 c.if-not-same_rect.false;

@@ -16,8 +16,7 @@ are_covered-requires-clause-arrivals g c =
 pub returns : goal.returns
 returns g c =
     let ground = ground_of c.args.board.now.parts c.args.planes.now c.args.net in
-    let P : List Entry → Type 0 = λ es. All (λ (e : Entry). IsCovered c.args.targets.now c.args.cert.now (arrival_of e)) es in
-    (
+    let P : List Entry → Type 0 = λ es. All (λ (e : Entry). IsCovered c.args.targets.now c.args.cert.now (arrival_of e)) es in (
       λ t. starts_covered ground c.args.targets.now c.args.cert.now c.args.source c.args.number c.in_ok-starts.starts c.in_ok-starts.ensures.all (subst P c.as_slice.ensures (c.are_covered.ensures.0 t)),
       λ h. c.are_covered.ensures.1 (subst P (sym c.as_slice.ensures) (covered_starts ground c.args.targets.now c.args.cert.now c.args.source c.args.number c.in_ok-starts.starts c.in_ok-starts.ensures.each h)),
     )

@@ -10,8 +10,7 @@ pub returns : goal.returns
 returns c = λ g s.
     let e = c.args.e in
     let own = c.index-sources-m in
-    let n : slice_get c.args.sources.now c.args.m ≡ Some own.result = read_numbered c.args.sources.now c.args.m own.result (omega arith) own.is in
-    (
+    let n : slice_get c.args.sources.now c.args.m ≡ Some own.result = read_numbered c.args.sources.now c.args.m own.result (omega arith) own.is in (
       λ t. record { box = own.result; numbered = n; start = (c.is_start.ensures g s).0 t },
       λ f.
           let P : Spot → Type 0 = λ x. IsStart g x (arrival_of e) in

@@ -6,8 +6,7 @@ use Rattle.cert_check.proofs.origins.is_from_step.Goals as goal
 
 pub returns : goal.returns
 returns c = λ g s.
-    let e = c.args.e in
-    (
+    let e = c.args.e in (
       λ t. record { entry = c.in-Some.from; earlier = c.in-Some.ensures.earlier; numbered = c.in-Some.ensures.some; holds = (c.is_edge_move.ensures g s).0 t },
       λ f.
           let P : Entry → Type 0 = λ x. IsEdgeMove g (arrival_of x) (arrival_of e) in

@@ -14,8 +14,7 @@ is_via_move-requires-clause-from g c =
 pub returns : goal.returns
 returns g c =
     let e = c.args.e in
-    let ground = ground_of c.args.board.now.parts c.args.planes.now c.args.net in
-    (
+    let ground = ground_of c.args.board.now.parts c.args.planes.now c.args.net in (
       λ t. record { entry = c.in-Some.from; earlier = c.in-Some.ensures.earlier; numbered = c.in-Some.ensures.some; holds = c.is_via_move.ensures.0 t },
       λ f.
           let P : Entry → Type 0 = λ x. IsViaMove ground c.args.k (arrival_of x) (arrival_of e) in

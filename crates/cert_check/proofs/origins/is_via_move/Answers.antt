@@ -12,8 +12,7 @@ use Rattle.cert_check.proofs.origins.is_via_move.Goals as goal
 
 pub returns-in_default : goal.returns-in_default
 returns-in_default g c =
-    let ground = ground_of c.args.board.now.parts c.args.planes.now c.args.net in
-    (
+    let ground = ground_of c.args.board.now.parts c.args.planes.now c.args.net in (
       λ t. absurd (not_true t),
       λ m. absurd (c.in_default.ensures.none m.via_strip (via_passed ground c.args.k (arrival_of c.args.from) (arrival_of c.args.to) c.corner.result c.corner.ensures m)),
     )
@@ -28,8 +27,7 @@ returns-then-not-joins g c =
 pub returns-in_default-meet_of_three : goal.returns-in_default-meet_of_three
 returns-in_default-meet_of_three g c =
     let b = c.args.board.now in
-    let ground = ground_of b.parts c.args.planes.now c.args.net in
-    (
+    let ground = ground_of b.parts c.args.planes.now c.args.net in (
       λ t. absurd (not_true t),
       λ m.
           let n = moved_by ground c.args.k (arrival_of c.args.from) (arrival_of c.args.to) c.corner.result c.in-Some.pass
@@ -53,8 +51,7 @@ returns g c =
     let Q : ViaKind → Type 0 = λ kind. IsInSpan kind c.args.to.layer in
     let R : ViaKind → Type 0 = λ kind. IsMoved from own.common kind.charge to in
     let e = c.kind-kind.ensures.value in
-    let j = c.joins.ensures.0 c.if-not-joins.false in
-    (
+    let j = c.joins.ensures.0 c.if-not-joins.false in (
       λ t.
           by_via ground c.args.k from to c.in-Some.pass own.common c.requires.placed c.in-Some.ensures.some.strip (subst P e j.0) (subst Q e j.1) j.2 own.ensures.some (subst R e (c.is_moved.ensures.0 t)),
       λ m.

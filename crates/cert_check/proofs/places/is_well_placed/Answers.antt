@@ -13,8 +13,7 @@ returns-in_default g c =
 pub returns-then-not-same_rect : goal.returns-then-not-same_rect
 returns-then-not-same_rect g c =
     let b = c.args.board.now in
-    let ground = ground_of b.parts c.args.planes.now c.args.net in
-    (
+    let ground = ground_of b.parts c.args.planes.now c.args.net in (
       λ t. absurd (not_true t),
       λ w.
           absurd (not_both

@@ -10,8 +10,7 @@ returns-in_default c =
     (λ t. absurd (not_true t), λ m. absurd (meet_not_apart c.args.a c.args.b c.args.r c.in_default.ensures.none m))
 
 pub returns : goal.returns
-returns c =
-    (
-      λ t. let P : Rect → Type 0 = λ r. IsMeet c.args.a c.args.b r in subst P (c.same_rect.ensures.0 t) c.in-Some.ensures.some,
-      λ h. c.same_rect.ensures.1 (meet_one c.args.a c.args.b c.in-Some.common c.args.r c.in-Some.ensures.some h),
-    )
+returns c = (
+  λ t. let P : Rect → Type 0 = λ r. IsMeet c.args.a c.args.b r in subst P (c.same_rect.ensures.0 t) c.in-Some.ensures.some,
+  λ h. c.same_rect.ensures.1 (meet_one c.args.a c.args.b c.in-Some.common c.args.r c.in-Some.ensures.some h),
+)
