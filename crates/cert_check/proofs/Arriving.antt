@@ -1,11 +1,10 @@
 -- The fronts of starts and of moves lie in strips that the net may pass, and are all listed.
-use Rattle.std.proofs.Common.{◌≡◌, ℕ, ◌<◌, List, All, length, ap, subst, sym}
+use Rattle.std.proofs.Common.{ℕ, ◌<◌, List, All, length, subst}
 use Rattle.std.proofs.lemmas.List.Elements.{All-contains, All-weaker}
 use Rattle.geo_rect.specs.declared.ids.KindId.{KindId}
 use Rattle.geo_rect.specs.declared.ids.NetId.{NetId}
 use Rattle.geo_rect.specs.declared.ids.Spot.{Spot}
 use Rattle.geo_rect.specs.declared.shapes.Point.{Point}
-use Rattle.geo_rect.specs.declared.shapes.Rect.{Rect}
 use Rattle.geo_rect.specs.Plane.{HasPoint, IsBounded}
 use Rattle.geo_rect.proofs.Clamps.{clamped_point}
 use Rattle.board_model.specs.declared.parts.BoardParts.{BoardParts}

@@ -5,7 +5,6 @@ use Rattle.std.proofs.lemmas.Int.{ints}
 use Rattle.std.proofs.lemmas.List.Elements.{All-get_or}
 use Rattle.std.proofs.lemmas.Option.{slice_get-get_or}
 use Rattle.geo_rect.specs.declared.ids.KindId.{KindId}
-use Rattle.geo_rect.specs.declared.ids.LayerId.{LayerId}
 use Rattle.geo_rect.specs.declared.ids.NetId.{NetId}
 use Rattle.geo_rect.specs.declared.ids.Spot.{Spot}
 use Rattle.geo_rect.specs.declared.shapes.Interval.{Interval}
@@ -15,7 +14,6 @@ use Rattle.geo_rect.specs.Distance.{IsDistance}
 use Rattle.geo_rect.specs.Line.{between}
 use Rattle.geo_rect.specs.Plane.{columns, rows, IsBounded}
 use Rattle.board_model.specs.declared.parts.BoardParts.{BoardParts}
-use Rattle.board_model.specs.declared.parts.ViaKind.{ViaKind}
 use Rattle.board_model.specs.Lookup.{kind_of}
 use Rattle.board_model.specs.Rules.{IsBoard, IsKind}
 use Rattle.plane_set.specs.Standing.{PlaneTable, HasPlanes}

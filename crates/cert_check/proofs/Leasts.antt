@@ -4,13 +4,12 @@ use Rattle.std.proofs.lemmas.Bool.{cases_lt}
 use Rattle.std.proofs.lemmas.List.{take_more}
 use Rattle.std.proofs.lemmas.List.Elements.{Contains-push, Contains-push_cases, Contains-append_left}
 use Rattle.geo_rect.specs.declared.ids.Spot.{Spot}
-use Rattle.geo_rect.specs.declared.shapes.Point.{Point}
 use Rattle.geo_rect.specs.declared.shapes.Rect.{Rect}
 use Rattle.geo_rect.specs.Distance.{IsDistance}
-use Rattle.geo_rect.specs.Plane.{HasPoint, IsMeet, ShareNoPoint}
+use Rattle.geo_rect.specs.Plane.{IsMeet, ShareNoPoint}
 use Rattle.geo_rect.proofs.Distances.{find_distance, distance_one}
 use Rattle.route_law.specs.declared.certs.Entry.{Entry}
-use Rattle.route_law.specs.Right.{IsEnd, IsLeastEnd, HasNoEnd, IsBoundOf}
+use Rattle.route_law.specs.Right.{IsEnd, HasNoEnd, IsBoundOf}
 use Rattle.route_law.proofs.Doors.{find_meet}
 use Rattle.cert_check.specs.Bounds.{IsLeast, IsLeastOf, lesser_of, IsEndAt, IsSomeEnd}
 use Rattle.cert_check.proofs.Meets.{meet_one, meet_not_apart}

@@ -1,5 +1,5 @@
 -- Rectangles of common points are one, and each has a corner.
-use Rattle.std.proofs.Common.{◌≡◌, refl}
+use Rattle.std.proofs.Common.{◌≡◌}
 use Rattle.geo_rect.specs.declared.shapes.Point.{Point}
 use Rattle.geo_rect.specs.declared.shapes.Rect.{Rect}
 use Rattle.geo_rect.specs.Plane.{columns, rows, HasPoint, IsMeet, ShareNoPoint}

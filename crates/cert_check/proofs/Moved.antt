@@ -1,7 +1,6 @@
 -- Moves of which the code knows all but the ground.
-use Rattle.std.proofs.Common.{◌≡◌, ◌≢◌, ◌+◌, ℕ, ap, sym, subst, ◌∙◌, arith}
+use Rattle.std.proofs.Common.{◌≡◌, ◌≢◌, ap, subst, arith}
 use Rattle.geo_rect.specs.declared.ids.KindId.{KindId}
-use Rattle.geo_rect.specs.declared.ids.LayerId.{LayerId}
 use Rattle.geo_rect.specs.declared.shapes.Point.{Point}
 use Rattle.geo_rect.specs.declared.shapes.Rect.{Rect}
 use Rattle.geo_rect.specs.Edges.{IsEdge}
@@ -16,7 +15,7 @@ use Rattle.plane_core.specs.Labels.{label_of, IsPlane}
 use Rattle.plane_core.proofs.Alike.{strips_meet}
 use Rattle.cert_check.specs.Fronts.{IsMoved}
 use Rattle.cert_check.specs.Passages.{IsViaPassage}
-use Rattle.cert_check.proofs.Meets.{corner_of, has_corner, three_second, three_one}
+use Rattle.cert_check.proofs.Meets.{three_second, three_one}
 
 edge_one : (t u r s : Rect) → IsEdge t u r → IsEdge t u s → r ≡ s
 edge_one t u r s a b = same_points r s (λ p h. b.all p (a.in_u p h) (a.beside_t p h)) (λ p h. a.all p (b.in_u p h) (b.beside_t p h))

@@ -1,9 +1,9 @@
 -- Well placed entries: where they are, and how their strips lie to each other.
-use Rattle.std.proofs.Common.{◌≡◌, ◌≢◌, ap, subst, sym}
+use Rattle.std.proofs.Common.{◌≡◌, ◌≢◌, subst}
 use Rattle.geo_rect.specs.declared.ids.LayerId.{LayerId}
 use Rattle.geo_rect.specs.declared.shapes.Point.{Point}
 use Rattle.geo_rect.specs.declared.shapes.Rect.{Rect}
-use Rattle.geo_rect.specs.Plane.{HasPoint, LiesIn, ShareNoPoint}
+use Rattle.geo_rect.specs.Plane.{HasPoint, ShareNoPoint}
 use Rattle.geo_rect.proofs.Parts.{lies_in_points}
 use Rattle.route_law.specs.declared.certs.Entry.{Entry}
 use Rattle.route_law.specs.Ground.{Ground, IsGround, IsWireStrip}

@@ -6,7 +6,7 @@ use Rattle.board_model.specs.declared.parts.BoardParts.{BoardParts}
 use Rattle.route_law.specs.declared.certs.Cert.{Cert}
 use Rattle.route_law.specs.Ground.{Ground}
 use Rattle.route_law.specs.Right.{IsBoundOf, IsRight}
-use Rattle.route_law.specs.Walks.{IsLowerBound, HasNoJoiningWalk}
+use Rattle.route_law.specs.Walks.{IsLowerBound}
 use Rattle.walk_check.specs.Corners.{IsConnection}
 use Rattle.cert_check.specs.declared.verdicts.Verdict.{Verdict}
 use Rattle.cert_check.specs.declared.verdicts.Verdict.TheVariants.{Yes, No}
@@ -64,12 +64,7 @@ pub record IsLeastConnection (b : BoardParts) (g : Ground) (sources targets : Li
   pub connection : IsConnection b g conn sources targets
   pub least : IsLowerBound g sources targets conn.cost
 
--- what there is to a good connection: it is a cheapest one; and where there is none, there is no walk
-abbrev pub IsBest : BoardParts → Ground → List Spot → List Spot → Option Conn → Type 0
-IsBest b g sources targets (Some conn) = IsLeastConnection b g sources targets conn
-IsBest b g sources targets None = HasNoJoiningWalk g sources targets
-
--- yes says that there is no better connection
-abbrev pub IsBestIfYes : BoardParts → Ground → List Spot → List Spot → Option Conn → Verdict → Type 0
-IsBestIfYes b g sources targets conn Yes = IsBest b g sources targets conn
-IsBestIfYes b g sources targets conn (No n reason) = ⊤
+-- P, if the verdict is yes
+abbrev pub IfYes : Verdict → Type 0 → Type 0
+IfYes Yes P = P
+IfYes (No n reason) P = ⊤

@@ -6,6 +6,7 @@
 mod bounds;
 mod covers;
 mod fronts;
+mod laws;
 mod moves;
 mod origins;
 mod passages;
@@ -17,4 +18,5 @@ mod searches;
 mod tests;
 mod verdicts;
 
+pub use laws::a_verdict_is_yes_exactly_where_all_is_right;
 pub use verdicts::{Verdict, Why, check};

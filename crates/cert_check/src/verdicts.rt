@@ -1,10 +1,11 @@
-ghost use Rattle.std.specs.Prelude.{◌<◌, length, All, IfOk, IfSome};
+ghost use Rattle.std.specs.Prelude.{◌<◌, length, All, IfOk, IfSome, IfNone};
 ghost use Rattle.std.specs.Option.{option_copied};
 ghost use Rattle.plane_set.specs.Standing.{HasPlanes};
+ghost use Rattle.route_law.specs.Walks.{HasNoJoiningWalk};
 ghost use Rattle.strip_moves.specs.Grounds.{ground_of};
 ghost use Rattle.walk_check.specs.Corners.{HasPlaces};
 ghost use Rattle.cert_check.specs.Boxes.{IsBoardBox};
-ghost use Rattle.cert_check.specs.Verdicts.{IsVerdict, IsBestIfYes};
+ghost use Rattle.cert_check.specs.Verdicts.{IsVerdict, IfYes, IsLeastConnection};
 
 use crate::bounds::is_bound;
 use crate::paths::is_match;
@@ -65,7 +66,10 @@ pub fn check<P: Plane>(
     requires targets { All (IsBoardBox board.now.parts) targets.now }
     requires places { IfSome (option_copied conn) HasPlaces }
     ensures exact { IfOk result (IsVerdict board.now.parts (ground_of board.now.parts planes.now net) sources.now targets.now (option_copied conn.entry) cert.now) }
-    ensures yes_is_best { IfOk result (IsBestIfYes board.now.parts (ground_of board.now.parts planes.now net) sources.now targets.now (option_copied conn.entry)) }
+    ensures yes_is_least { IfOk result (λ v. IfYes v (IfSome (option_copied conn.entry)
+        (λ c. IsLeastConnection board.now.parts (ground_of board.now.parts planes.now net) sources.now targets.now c))) }
+    ensures yes_is_none { IfOk result (λ v. IfYes v (IfNone (option_copied conn.entry)
+        (HasNoJoiningWalk (ground_of board.now.parts planes.now net) sources.now targets.now))) }
 {
     let entries = cert.entries.as_slice();
     if let Some(entry) = first_misplaced(board, planes, net, entries) {

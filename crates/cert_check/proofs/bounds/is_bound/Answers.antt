@@ -1,4 +1,4 @@
-use Rattle.std.proofs.Common.{Option, ℕ, List, subst, sym}
+use Rattle.std.proofs.Common.{Option, ℕ, List, subst}
 use Rattle.route_law.specs.declared.certs.Entry.{Entry}
 use Rattle.route_law.specs.Right.{IsBoundOf}
 use Rattle.cert_check.specs.Bounds.{IsLeastOf, IsSomeEnd}

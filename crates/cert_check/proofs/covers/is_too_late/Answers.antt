@@ -1,5 +1,4 @@
 use Rattle.std.proofs.Common.{refl, arith}
-use Rattle.geo_rect.specs.declared.ids.Spot.{Spot}
 use Rattle.route_law.specs.Moves.{arrival_of}
 use Rattle.cert_check.specs.Fronts.{IsFarFrom}
 use Rattle.cert_check.proofs.Cases.{not_true, not_both}

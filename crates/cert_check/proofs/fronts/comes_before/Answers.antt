@@ -1,5 +1,4 @@
-use Rattle.std.proofs.Common.{◌≡◌, ◌+◌, ◌≤◌, ap, subst, sym, ℕ}
-use Rattle.geo_rect.specs.declared.ids.LayerId.{LayerId}
+use Rattle.std.proofs.Common.{◌+◌, ◌≤◌, ap, subst, ℕ}
 use Rattle.geo_rect.proofs.Reaches.{reach_one}
 use Rattle.board_model.specs.Lookup.{layer_at}
 use Rattle.cert_check.proofs.fronts.comes_before.Goals as goal

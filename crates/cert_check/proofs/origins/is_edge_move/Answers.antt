@@ -1,4 +1,4 @@
-use Rattle.std.proofs.Common.{◌≡◌, ap}
+use Rattle.std.proofs.Common.{ap}
 use Rattle.board_model.specs.Lookup.{layer_at}
 use Rattle.route_law.specs.Moves.{Arrival, arrival_of}
 use Rattle.cert_check.proofs.Cases.{not_both}

@@ -1,4 +1,4 @@
-use Rattle.std.proofs.Common.{◌≡◌, subst, sym}
+use Rattle.std.proofs.Common.{subst, sym}
 use Rattle.route_law.specs.declared.certs.Origin.{Origin}
 use Rattle.route_law.specs.Moves.{arrival_of}
 use Rattle.route_law.specs.Right.{IsFrom}

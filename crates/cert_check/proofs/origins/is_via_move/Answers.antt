@@ -1,12 +1,12 @@
-use Rattle.std.proofs.Common.{◌≡◌, ap, subst, sym}
+use Rattle.std.proofs.Common.{subst, sym}
 use Rattle.board_model.specs.declared.parts.ViaKind.{ViaKind}
 use Rattle.board_model.specs.Labels.{IsInSpan}
-use Rattle.route_law.specs.Moves.{Arrival, arrival_of}
+use Rattle.route_law.specs.Moves.{arrival_of}
 use Rattle.strip_moves.specs.Grounds.{ground_of}
 use Rattle.cert_check.specs.Fronts.{IsMoved}
 use Rattle.cert_check.proofs.Cases.{not_true, not_both}
 use Rattle.cert_check.proofs.Meets.{three_third}
-use Rattle.cert_check.proofs.Moved.{IsMovedBy, via_passed, moved_by, by_via, same_common}
+use Rattle.cert_check.proofs.Moved.{via_passed, moved_by, by_via, same_common}
 use Rattle.cert_check.proofs.OnBoard.{part_bounded, the_ground}
 use Rattle.cert_check.proofs.origins.is_via_move.Goals as goal
 

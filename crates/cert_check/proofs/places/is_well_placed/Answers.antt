@@ -1,4 +1,3 @@
-use Rattle.std.proofs.Common.{◌≡◌}
 use Rattle.strip_moves.specs.Grounds.{ground_of}
 use Rattle.cert_check.proofs.Cases.{not_true, not_both}
 use Rattle.cert_check.proofs.OnBoard.{the_ground}

@@ -1,18 +1,12 @@
-use Rattle.std.proofs.Common.{◌≡◌, List, ℕ, refl}
+use Rattle.std.proofs.Common.{refl}
 use Rattle.std.proofs.lemmas.List.Elements.{All-weaker}
-use Rattle.geo_rect.specs.declared.ids.Spot.{Spot}
 use Rattle.std.specs.Option.{option_copied}
-use Rattle.board_model.specs.declared.parts.BoardParts.{BoardParts}
-use Rattle.plane_set.specs.Standing.{PlaneTable, HasPlanes}
-use Rattle.route_law.specs.declared.certs.Entry.{Entry}
-use Rattle.route_law.specs.Ground.{Ground}
 use Rattle.route_law.specs.Right.{IsRight}
 use Rattle.strip_moves.specs.Grounds.{ground_of}
 use Rattle.cert_check.specs.Fronts.{IsBoundedEntry, HasBoundedFront}
-use Rattle.cert_check.specs.Stages.{Placed, Founded, Started, Followed, ArePlaced, AreFounded, IsStarted, IsClosed}
-use Rattle.cert_check.specs.Verdicts.{IsMatch}
+use Rattle.cert_check.specs.Stages.{Started, Followed, IsStarted, IsClosed}
 use Rattle.cert_check.proofs.Cases.{not_both}
-use Rattle.cert_check.proofs.Judging.{searched_none, searched_some, placed_in, founded_in, unfounded_in, right_if_closed, match_is_best}
+use Rattle.cert_check.proofs.Judging.{searched_none, searched_some, placed_in, founded_in, unfounded_in, right_if_closed, match_is_least, match_leaves_none}
 use Rattle.cert_check.proofs.OnBoard.{the_ground, all_placed_bounded}
 use Rattle.cert_check.proofs.verdicts.check.Goals as goal
 
@@ -137,8 +131,8 @@ returns-clause-exact g c =
     let right : IsRight ground sources targets cert = right_if_closed ground sources targets cert closed (c.is_bound.ensures.0 c.if-not-is_bound.false) in
     record { right = right; match = c.in_ok-matches.ensures.0 c.if-not-matches.false }
 
-pub returns-clause-yes_is_best : goal.returns-clause-yes_is_best
-returns-clause-yes_is_best g c =
+pub returns-clause-yes_is_least : goal.returns-clause-yes_is_least
+returns-clause-yes_is_least g c =
     let b = c.args.board.now in
     let ground = ground_of c.args.board.now.parts c.args.planes.now c.args.net in
     let sources = c.args.sources.now in
@@ -155,5 +149,26 @@ returns-clause-yes_is_best g c =
       moves = searched_none (Followed ground targets cert) cert.entries c.in_ok-from.from c.in_default-from.is c.in_ok-from.ensures;
     } in
     let right : IsRight ground sources targets cert = right_if_closed ground sources targets cert closed (c.is_bound.ensures.0 c.if-not-is_bound.false) in
-    match_is_best b.parts ground sources targets (option_copied c.args.conn) cert (the_ground b.parts c.args.planes.now c.args.net b.kept c.requires.planes c.requires.net) right
+    match_is_least b.parts ground sources targets (option_copied c.args.conn) cert (the_ground b.parts c.args.planes.now c.args.net b.kept c.requires.planes c.requires.net) right
+    (c.in_ok-matches.ensures.0 c.if-not-matches.false)
+
+pub returns-clause-yes_is_none : goal.returns-clause-yes_is_none
+returns-clause-yes_is_none g c =
+    let b = c.args.board.now in
+    let ground = ground_of c.args.board.now.parts c.args.planes.now c.args.net in
+    let sources = c.args.sources.now in
+    let targets = c.args.targets.now in
+    let cert = c.args.cert.now in
+    let items = c.as_slice-entries.result.now in
+    let e = c.as_slice-entries.ensures in
+    let started : IsStarted ground sources targets cert = record {
+      entries = founded_in ground sources items cert.entries e c.in_default.ensures c.in_default-first_unfounded.ensures.first;
+      starts = searched_none (Started ground targets cert) sources c.in_ok-start.start c.in_default-start.is c.in_ok-start.ensures;
+    } in
+    let closed : IsClosed ground sources targets cert = record {
+      started = started;
+      moves = searched_none (Followed ground targets cert) cert.entries c.in_ok-from.from c.in_default-from.is c.in_ok-from.ensures;
+    } in
+    let right : IsRight ground sources targets cert = right_if_closed ground sources targets cert closed (c.is_bound.ensures.0 c.if-not-is_bound.false) in
+    match_leaves_none b.parts ground sources targets (option_copied c.args.conn) cert (the_ground b.parts c.args.planes.now c.args.net b.kept c.requires.planes c.requires.net) right
     (c.in_ok-matches.ensures.0 c.if-not-matches.false)
