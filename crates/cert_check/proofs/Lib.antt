@@ -1,0 +1,11 @@
+pub mod Arriving
+pub mod Cases
+pub mod Costs
+pub mod Covering
+pub mod Judging
+pub mod Leasts
+pub mod Meets
+pub mod Moved
+pub mod Numbered
+pub mod OnBoard
+pub mod Placing

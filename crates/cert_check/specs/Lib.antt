@@ -1,0 +1,7 @@
+pub mod Bounds
+pub mod Boxes
+pub mod Fronts
+pub mod Passages
+pub mod Searches
+pub mod Stages
+pub mod Verdicts
