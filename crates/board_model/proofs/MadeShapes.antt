@@ -44,7 +44,7 @@ rule_is b h l c = All-or_else IsRule b.rules _ _ h.each_rule (record { half = on
 pad_is : (b : BoardParts) → IsBoard b → (k : KindId) (c : ClassId) → IsMeasure (pad_of b k c)
 pad_is b h k c = All-or_else IsMeasure b.pads _ _ h.each_pad one_is_measure
 
-kind_is : (b : BoardParts) → IsBoard b → (k : KindId) → k.0 < length b.kinds → IsKind (length b.layers) (kind_of b k)
+pub kind_is : (b : BoardParts) → IsBoard b → (k : KindId) → k.0 < length b.kinds → IsKind (length b.layers) (kind_of b k)
 kind_is b h k l = All-get_or (IsKind (length b.layers)) b.kinds k.0 _ l h.each_kind
 
 -- a wire between places lies near the origin, and so does a via at one
