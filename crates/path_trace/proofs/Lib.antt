@@ -1,0 +1,7 @@
+pub mod Splits
+pub mod Nodes
+pub mod Leads
+pub mod Lasts
+pub mod Grows
+pub mod Backwards
+pub mod Boards

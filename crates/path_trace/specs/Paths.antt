@@ -24,6 +24,10 @@ use Rattle.path_trace.specs.Lines.{HasOnlyTurns}
 abbrev pub node_at : LayerId → Point → Node
 node_at l p = record { x = p.x; y = p.y; layer = l }
 
+-- the place in the row of p and the column of v
+abbrev pub bend : Point → Node → Point
+bend p v = record { x = v.x; y = p.y }
+
 -- the legs of a path, the first one first
 abbrev pub legs_of : Path → List Leg
 legs_of p = reverse p.back

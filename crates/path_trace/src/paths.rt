@@ -1,14 +1,20 @@
 //! A path, built from the end of a connection back to its start.
 
-ghost use Rattle.std.specs.Prelude.{◌≡◌, ◌↔◌, [], IsTrue, OnOk, slice_get};
+ghost use Rattle.std.specs.Prelude.{◌≡◌, ◌↔◌, [], ◌∷◌, IsTrue, OnOk, slice_get};
 ghost use Rattle.board_model.specs.declared.made.Leg.TheVariants.{Wire, Via};
-ghost use Rattle.board_model.specs.WellFormed.{AreSteps};
+ghost use Rattle.board_model.specs.WellFormed.{IsCorner, AreSteps};
 ghost use Rattle.route_law.specs.Connections.{IsStraight};
 ghost use Rattle.path_trace.specs.Lines.{GoesStraight};
+ghost use Rattle.geo_rect.specs.declared.ids.NetId.{NetId as Net};
+ghost use Rattle.board_model.specs.Shapes.{place_of};
+ghost use Rattle.plane_set.specs.Standing.{PlaneTable};
+ghost use Rattle.route_law.specs.Connections.{cost_of_legs};
+ghost use Rattle.strip_moves.specs.Grounds.{ground_of};
 ghost use Rattle.path_trace.specs.Paths.{node_at, legs_of, IsLed, IsLedFrom};
 
 use crate::costs::cost_of;
 use crate::lines::{goes_on, is_one_place};
+use crate::points::{bend, node_at, place_of};
 use board_model::{Board, Conn, Leg};
 use geo_rect::{KindId, LayerId, List, NoMemory, Node, Point};
 use std::alloc::Global;
@@ -71,11 +77,7 @@ impl Path {
     {
         let end = self.start;
         self.back.push(Leg::Via(kind, end))?;
-        self.start = Node {
-            x: end.x,
-            y: end.y,
-            layer,
-        };
+        self.start = node_at(layer, place_of(end));
         Ok(())
     }
 
@@ -85,21 +87,14 @@ impl Path {
         ensures { OnOk result (IsLedFrom from self.old self.new) }
     {
         let end = self.start;
-        self.push_wire(Node {
-            x: end.x,
-            y: from.y,
-            layer: end.layer,
-        })?;
-        self.push_wire(Node {
-            x: from.x,
-            y: from.y,
-            layer: end.layer,
-        })
+        self.push_wire(node_at(end.layer, bend(from, end)))?;
+        self.push_wire(node_at(end.layer, from))
     }
 
     /// The path as a connection with its cost.
     pub fn into_conn(self, board: &Board) -> Conn
-        requires { AreSteps board.now.parts self.start (legs_of self) }
+        requires start { IsCorner board.now.parts self.start }
+        requires steps { AreSteps board.now.parts self.start (legs_of self) }
         ensures start { result.start ≡ self.start }
         ensures legs { result.legs ≡ legs_of self }
         ensures cost { (set : PlaneTable) (n : Net) → result.cost ≡ cost_of_legs (ground_of board.now.parts set n) self.start (legs_of self) }

@@ -2,14 +2,33 @@ ghost use Rattle.std.specs.Prelude.{◌≡◌};
 ghost use Rattle.geo_rect.specs.Distance.{apart, IsAway};
 ghost use Rattle.geo_rect.specs.Plane.{HasPoint, lone};
 ghost use Rattle.board_model.specs.Shapes.{place_of};
+ghost use Rattle.path_trace.specs.Paths.{node_at, bend};
 
-use geo_rect::{Interval, Node, Point, Rect, clamp};
+use geo_rect::{Interval, LayerId, Node, Point, Rect, clamp};
 
 /// Where a node stands on its layer.
 pub fn place_of(v: Node) -> Point
     ensures { result ≡ place_of v }
 {
     Point { x: v.x, y: v.y }
+}
+
+/// The node on a layer at a place.
+pub fn node_at(layer: LayerId, p: Point) -> Node
+    ensures { result ≡ node_at layer p }
+{
+    Node {
+        x: p.x,
+        y: p.y,
+        layer,
+    }
+}
+
+/// The place in the row of `p` and the column of `v`.
+pub fn bend(p: Point, v: Node) -> Point
+    ensures { result ≡ bend p v }
+{
+    Point { x: v.x, y: p.y }
 }
 
 /// The one number `v`.

@@ -1,6 +1,6 @@
 //! The way back from an entry of a certificate to a source.
 
-ghost use Rattle.std.specs.Prelude.{◌≡◌, ℕ, ◌+◌, ◌<◌, Some, length, slice_get, IfOk, OnOk, IfSome};
+ghost use Rattle.std.specs.Prelude.{◌≡◌, ℕ, ◌+◌, ◌<◌, List, Some, length, slice_get, IfOk, OnOk, IfSome};
 ghost use Rattle.geo_rect.specs.declared.ids.Node.{Node as Place};
 ghost use Rattle.geo_rect.specs.declared.ids.Spot.{Spot as Box};
 ghost use Rattle.geo_rect.specs.Distance.{IsAway};
@@ -20,7 +20,7 @@ ghost use Rattle.path_trace.specs.Paths.{IsLedFrom};
 ghost use Rattle.path_trace.specs.Traces.{IsInStripOf, ComesBefore, AreEarlier, IsSound, IsTrace, IsWhole, LeavesEntry, GoesBack, IsOneStepOff, IsCrossed};
 
 use crate::paths::Path;
-use crate::points::{nearest, place_of};
+use crate::points::{nearest, node_at, place_of};
 use board_model::{Board, Conn};
 use geo_rect::{NetId, NoMemory, Node, Point, Rect, Spot};
 use plane_core::Plane;
@@ -120,9 +120,5 @@ fn cross(path: &mut Path, t: Rect) -> Result<(), NoMemory>
     ensures { OnOk result (IsOneStepOff t (place_of path.old.start) → IsCrossed t path.old path.new) }
 {
     let from = nearest(t, place_of(path.start));
-    path.push_wire(Node {
-        x: from.x,
-        y: from.y,
-        layer: path.start.layer,
-    })
+    path.push_wire(node_at(path.start.layer, from))
 }
