@@ -1,8 +1,8 @@
 -- The way back through one entry: to its front, and from there to where it comes from.
-use Rattle.std.proofs.Common.{ℕ, zero, suc, ◌≡◌, ◌+◌, ◌<◌, ◌≤◌, inl, inr, refl, sym, ap, subst, ◌∙◌, List, [], ◌∷◌, ◌++◌, Contains, Option, Some, length, get_or, arith}
+use Rattle.std.proofs.Common.{ℕ, zero, suc, ◌≡◌, ◌+◌, ◌<◌, ◌≤◌, refl, sym, ap, subst, ◌∙◌, List, [], Contains, Option, Some, None, arith}
 use Rattle.std.specs.Prelude.{slice_get}
 use Rattle.std.proofs.lemmas.List.Sums.{sum_by-cons}
-use Rattle.std.proofs.lemmas.Option.{same_Some, slice_get_read, slice_get_within, get_or_from_slice_get}
+use Rattle.std.proofs.lemmas.Option.{same_Some, slice_get_within, get_or_from_slice_get}
 use Rattle.geo_rect.specs.declared.ids.KindId.{KindId}
 use Rattle.geo_rect.specs.declared.ids.LayerId.{LayerId}
 use Rattle.geo_rect.specs.declared.ids.Node.{Node}
@@ -13,7 +13,7 @@ use Rattle.geo_rect.specs.Distance.{apart, IsAway}
 use Rattle.geo_rect.specs.Plane.{HasPoint}
 use Rattle.geo_rect.proofs.Clamps.{clamped_level, clamped_point}
 use Rattle.geo_rect.proofs.Distances.{on_point, step_grows}
-use Rattle.geo_rect.proofs.Nearest.{apart-sym, away_one, find_away}
+use Rattle.geo_rect.proofs.Nearest.{away_one, find_away}
 use Rattle.geo_rect.proofs.Parts.{lies_in_points}
 use Rattle.board_model.specs.declared.made.Leg.{Leg}
 use Rattle.board_model.specs.declared.made.Leg.TheVariants.{Wire, Via}
@@ -25,26 +25,21 @@ use Rattle.board_model.specs.Shapes.{place_of}
 use Rattle.board_model.specs.WellFormed.{IsVia}
 use Rattle.route_law.specs.declared.certs.Entry.{Entry}
 use Rattle.route_law.specs.declared.certs.Origin.{Origin}
-use Rattle.route_law.specs.declared.certs.Origin.TheVariants.{Source, Step, Via as ByVia}
 use Rattle.route_law.specs.Connections.{IsStraight}
-use Rattle.route_law.specs.Ground.{Ground, IsGround, IsPassableNode, IsWireStrip}
+use Rattle.route_law.specs.Ground.{Ground, IsPassableNode, IsWireStrip}
 use Rattle.route_law.specs.Moves.{arrival_of, IsEdgeMove, IsViaMove}
-use Rattle.route_law.specs.Right.{IsWellPlaced, IsFromSource, IsFrom}
-use Rattle.route_law.specs.Walks.{IsViaStep, price_of, HasNode}
+use Rattle.route_law.specs.Right.{IsFromSource, IsFrom}
+use Rattle.route_law.specs.Walks.{IsViaStep, price_of}
 use Rattle.route_law.proofs.Before.{one_step_before}
 use Rattle.route_law.proofs.Passed.{via_strip_passable, one_wire_strip}
 use Rattle.path_trace.specs.declared.paths.Path.{Path}
-use Rattle.path_trace.specs.Paths.{node_at, legs_of, IsLed, IsLedTo, IsBoardGround, IsPath, IsLedFrom}
+use Rattle.path_trace.specs.Paths.{node_at, legs_of, IsLed, IsPath, IsLedFrom}
 use Rattle.path_trace.specs.Traces.{IsInStripOf, IsSound, IsTrace, IsAtFront, IsWhole, IsTracedTo, IsOneStepOff, IsCrossed}
 use Rattle.path_trace.proofs.Grows.{path_led, passable_at, corner_at, unit_led}
 use Rattle.path_trace.proofs.Nodes.{straight_one}
 
 pub listed_at : {A : Type 0} (xs : List A) (n : ℕ) (x : A) → slice_get xs n ≡ Some x → Contains xs x
 listed_at xs n x e = (n, slice_get_within xs n x e, get_or_from_slice_get xs n x x e)
-
--- what is read at a number is the entry of the number
-pub read_is : {A : Type 0} (xs : List A) (n : ℕ) (x y : A) → n < length xs → x ≡ get_or xs n x → slice_get xs n ≡ Some y → x ≡ y
-read_is xs n x y l e h = same_Some x y (sym (slice_get_read xs (length xs) n x refl l e) ∙ h)
 
 not_far : (t : Rect) (p q : Point) (n : ℕ) → HasPoint t q → (HasPoint t p → ⊥) → apart q p ≡ n → n ≤ 1 → n ≡ 1
 not_far t p q n h out e l =
@@ -187,3 +182,8 @@ module _ (b : BoardParts) (g : Ground) (sources : List Spot) (entries : List Ent
   -- the entry as its origin has it
   pub origin_is : (n : ℕ) (e : Entry) (o : Origin) → slice_get entries n ≡ Some e → e.origin ≡ o → IsFrom g sources entries n (arrival_of e) o
   origin_is n e o i is = subst (λ (x : Origin). IsFrom g sources entries n (arrival_of e) x) is (sound.founded n e i)
+
+-- a path that has come to no entry is whole
+pub whole_by : (b : BoardParts) (g : Ground) (sources : List Spot) (entries : List Entry) (goal : Node) (total : ℕ) (o : Option ℕ) (p : Path) → ((n : ℕ) → o ≡ Some n → ⊥) → IsTracedTo b g sources entries goal total o p → IsWhole b g sources goal total p
+whole_by b g sources entries goal total None p stop h = h
+whole_by b g sources entries goal total (Some n) p stop h = absurd (stop n refl)

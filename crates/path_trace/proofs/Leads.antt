@@ -1,5 +1,5 @@
 -- What a leg put before a path does, in each of the three ways in which it may be put there.
-use Rattle.std.proofs.Common.{ℕ, ℤ, ◌≡◌, ◌≢◌, ◌++◌, ◌⊎◌, inl, inr, refl, sym, ap, subst, ◌∙◌, List, [], ◌∷◌, append_assoc, Option, Some, None, true, false, IsTrue, ◌↔◌}
+use Rattle.std.proofs.Common.{ℕ, ℤ, ◌≡◌, ◌++◌, ◌⊎◌, inl, inr, refl, sym, ap, subst, ◌∙◌, List, [], ◌∷◌, append_assoc, Some, None, ◌↔◌}
 use Rattle.std.specs.Prelude.{slice_get}
 use Rattle.std.proofs.lemmas.Option.{same_Some}
 use Rattle.geo_rect.specs.declared.ids.KindId.{KindId}
@@ -12,9 +12,8 @@ use Rattle.board_model.specs.declared.made.Leg.TheVariants.{Wire, Via}
 use Rattle.board_model.specs.Shapes.{place_of}
 use Rattle.board_model.specs.WellFormed.{IsInLine, across, up, IsWire}
 use Rattle.route_law.specs.Connections.{units, steps_of_leg, steps_of_legs, IsStraight}
-use Rattle.path_trace.specs.Lines.{GoesOn, GoesStraight, HasOnlyTurns}
+use Rattle.path_trace.specs.Lines.{GoesOn, GoesStraight}
 use Rattle.path_trace.specs.Paths.{IsLedTo}
-use Rattle.path_trace.proofs.Nodes.{same_place}
 use Rattle.path_trace.proofs.Splits.{steps_split, goes_on_rest, flat_is}
 
 point_is : (p q : Point) → p.x ≡ q.x → p.y ≡ q.y → p ≡ q

@@ -1,5 +1,5 @@
 -- A wire that goes on in the line of another one: the units of the two are those of one wire.
-use Rattle.std.proofs.Common.{ℕ, zero, suc, ℤ, pos, ◌≡◌, ◌+◌, ◌+ℤ◌, ◌-ℤ◌, ◌<ℤ◌, ◌≤ℤ◌, ◌⊎◌, inl, inr, refl, sym, ap, subst, ◌∙◌, List, [], ◌∷◌, ◌++◌, zero-add, arith}
+use Rattle.std.proofs.Common.{ℕ, zero, suc, ℤ, pos, ◌≡◌, ◌+◌, ◌+ℤ◌, ◌-ℤ◌, ◌<ℤ◌, inl, inr, refl, sym, ap, subst, ◌∙◌, List, ◌∷◌, ◌++◌, zero-add, arith}
 use Rattle.std.proofs.lemmas.Int.{ints}
 use Rattle.geo_rect.specs.declared.ids.Node.{Node}
 use Rattle.geo_rect.specs.Distance.{apart}
@@ -9,7 +9,7 @@ use Rattle.board_model.specs.declared.made.Leg.TheVariants.{Wire}
 use Rattle.board_model.specs.Shapes.{place_of}
 use Rattle.route_law.specs.Connections.{toward, node_toward, units, steps_of_leg, IsStraight}
 use Rattle.route_law.proofs.Wires.{Toward, rises, falls, stays, toward_is, toward_stays, unit_on}
-use Rattle.path_trace.specs.Lines.{IsPassed, rising, falling, RunsAcross, RunsUp, GoesOn}
+use Rattle.path_trace.specs.Lines.{IsPassed, rising, falling, GoesOn}
 use Rattle.path_trace.proofs.Nodes.{node_is, none_apart}
 
 up_one : (x z t : ℤ) → x <ℤ z → Toward x z t → t ≡ x +ℤ pos 1

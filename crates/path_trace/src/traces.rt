@@ -34,26 +34,26 @@ use std::alloc::Global;
 pub fn trace<P: Plane>(
     alloc: Global,
     board: &Board,
-    _planes: &PlaneSet<P>,
-    _net: NetId,
-    _sources: &[Spot],
-    _targets: &[Spot],
+    planes: &PlaneSet<P>,
+    net: NetId,
+    sources: &[Spot],
+    targets: &[Spot],
     cert: &Cert,
     entry: u64,
     end: Node,
 ) -> Result<Conn, NoMemory>
-    requires planes { HasPlanes board.now.parts _planes.now }
-    requires net { _net.0 < length board.now.parts.net_names }
-    requires right { IsRight (ground_of board.now.parts _planes.now _net) _sources.now _targets.now cert.now }
+    requires planes { HasPlanes board.now.parts planes.now }
+    requires net { net.0 < length board.now.parts.net_names }
+    requires right { IsRight (ground_of board.now.parts planes.now net) sources.now targets.now cert.now }
     requires entry { entry < length cert.now.entries }
     requires inside { (e : CertEntry) → slice_get cert.now.entries entry ≡ Some e → IsInStripOf e end }
     ensures well_formed { IfOk result (λ conn. IsWellFormed board.now.parts conn) }
     ensures turns { IfOk result (λ conn. HasOnlyTurns conn.start conn.legs) }
-    ensures starts { IfOk result (λ conn. HasNode _sources.now conn.start) }
-    ensures walk { IfOk result (λ conn. IsWalk (ground_of board.now.parts _planes.now _net) conn.start (steps_of conn)) }
+    ensures starts { IfOk result (λ conn. HasNode sources.now conn.start) }
+    ensures walk { IfOk result (λ conn. IsWalk (ground_of board.now.parts planes.now net) conn.start (steps_of conn)) }
     ensures stops { IfOk result (λ conn. last_node conn.start (steps_of conn) ≡ end) }
     ensures ends { IfOk result (λ conn. last_node conn.start conn.legs ≡ end) }
-    ensures cost { IfOk result (λ conn. walk_cost (ground_of board.now.parts _planes.now _net) (steps_of conn) ≡ conn.cost) }
+    ensures cost { IfOk result (λ conn. walk_cost (ground_of board.now.parts planes.now net) (steps_of conn) ≡ conn.cost) }
     ensures promise { IfOk result (λ conn. (e : CertEntry) (n : ℕ) → slice_get cert.now.entries entry ≡ Some e
         → IsAway e.front (place_of end) n → conn.cost ≡ e.cost + n) }
 {

@@ -1,12 +1,12 @@
-use Rattle.std.proofs.Common.{◌≡◌, ◌<◌, length, subst}
-use Rattle.std.proofs.lemmas.Option.{slice_get_within}
+use Rattle.std.proofs.Common.{◌≡◌, get_or, subst}
+use Rattle.std.proofs.lemmas.Option.{get_or_from_slice_get}
 use Rattle.board_model.specs.declared.made.Leg.TheVariants.{Via}
 use Rattle.board_model.specs.Shapes.{place_of}
 use Rattle.route_law.specs.declared.certs.Entry.{Entry}
 use Rattle.route_law.specs.declared.certs.Origin.TheVariants.{Source, Step, Via as ByVia}
 use Rattle.path_trace.specs.Paths.{node_at, IsLed}
 use Rattle.path_trace.specs.Traces.{IsOneStepOff, IsCrossed}
-use Rattle.path_trace.proofs.Backwards.{read_is, from_source, one_step_off, by_step, by_via, origin_is}
+use Rattle.path_trace.proofs.Backwards.{from_source, one_step_off, by_step, by_via, origin_is}
 use Rattle.path_trace.proofs.traces.leave.Goals as goal
 
 pub returns-in-Source-clause-back : goal.returns-in-Source-clause-back
@@ -27,8 +27,7 @@ returns-in_ok-cross-in-Step-clause-back c =
     let old = c.args.path.now in
     let new = c.cross.new.path in
     let f = origin_is b g sources entries goal total sound n e (Step m) i c.in-Step.is in
-    let within : m < length entries = slice_get_within entries m f.entry f.numbered in
-    let is : c.index-entries-m.result ≡ f.entry = read_is entries m c.index-entries-m.result f.entry within c.index-entries-m.is f.numbered in
+    let is : get_or entries m c.index-entries-m.result ≡ f.entry = get_or_from_slice_get entries m f.entry c.index-entries-m.result f.numbered in
     let cross : IsOneStepOff f.entry.strip (place_of old.start) → IsCrossed f.entry.strip old new =
     subst (λ (x : Entry). IsOneStepOff x.strip (place_of old.start) → IsCrossed x.strip old new) is c.in_ok-cross-in-Step.ensures in
     let off = one_step_off b g sources entries goal total sound f.entry e n m old new i f.numbered at f.holds in
@@ -44,9 +43,7 @@ returns-in_ok-push_via-in-Via-clause-back c =
     let k = c.in-Via.kind in
     let old = c.args.path.now in
     let new = c.push_via.new.self in
-    let read = c.index-entries-m-in-Via in
     let f = origin_is b g sources entries goal total sound n e (ByVia m k) i c.in-Via.is in
-    let within : m < length entries = slice_get_within entries m f.entry f.numbered in
-    let is : read.result ≡ f.entry = read_is entries m read.result f.entry within read.is f.numbered in
+    let is : get_or entries m c.index-entries-m-in-Via.result ≡ f.entry = get_or_from_slice_get entries m f.entry c.index-entries-m-in-Via.result f.numbered in
     let led = subst (λ (x : Entry). IsLed (node_at x.layer (place_of old.start)) (Via k old.start) old new) is c.in_ok-push_via-in-Via.ensures in
     by_via b g sources entries goal total sound f.entry e n m old new i f.numbered at k f.holds led
