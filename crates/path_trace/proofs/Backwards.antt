@@ -25,17 +25,20 @@ use Rattle.board_model.specs.Shapes.{place_of}
 use Rattle.board_model.specs.WellFormed.{IsVia}
 use Rattle.route_law.specs.declared.certs.Entry.{Entry}
 use Rattle.route_law.specs.declared.certs.Origin.{Origin}
-use Rattle.route_law.specs.Connections.{IsStraight}
+use Rattle.route_law.specs.Connections.{steps_of_legs, IsStraight}
 use Rattle.route_law.specs.Ground.{Ground, IsPassableNode, IsWireStrip}
 use Rattle.route_law.specs.Moves.{arrival_of, IsEdgeMove, IsViaMove}
 use Rattle.route_law.specs.Right.{IsFromSource, IsFrom}
 use Rattle.route_law.specs.Walks.{IsViaStep, price_of}
 use Rattle.route_law.proofs.Before.{one_step_before}
 use Rattle.route_law.proofs.Passed.{via_strip_passable, one_wire_strip}
+use Rattle.route_law.proofs.Wires.{wire_end}
 use Rattle.path_trace.specs.declared.paths.Path.{Path}
 use Rattle.path_trace.specs.Paths.{node_at, legs_of, IsLed, IsPath, IsLedFrom}
-use Rattle.path_trace.specs.Traces.{IsInStripOf, IsSound, IsTrace, IsAtFront, IsWhole, IsTracedTo, IsOneStepOff, IsCrossed}
-use Rattle.path_trace.proofs.Grows.{path_led, passable_at, corner_at, unit_led}
+use Rattle.path_trace.specs.Strips.{IsInStripOf, IsInSomeStrip, StaysInStrips}
+use Rattle.path_trace.specs.Traces.{IsSound, IsTrace, IsAtFront, IsWhole, IsTracedTo, IsOneStepOff, IsCrossed}
+use Rattle.path_trace.proofs.Grows.{path_led, passable_at, corner_at, unit_led, unit_stays}
+use Rattle.path_trace.proofs.Strips.{led_stays}
 use Rattle.path_trace.proofs.Nodes.{straight_one}
 
 pub listed_at : {A : Type 0} (xs : List A) (n : ℕ) (x : A) → slice_get xs n ≡ Some x → Contains xs x
@@ -61,7 +64,7 @@ module _ (b : BoardParts) (g : Ground) (sources : List Spot) (entries : List Ent
   part_of_strip e h = (lies_in_points e.front e.strip).0 (sound.placed e h).holds
 
   -- to the nearest point of the front
-  pub at_front : (n : ℕ) (e : Entry) (q : Point) (old new : Path) → slice_get entries n ≡ Some e → HasPoint e.front q → IsAway e.front (place_of old.start) (apart q (place_of old.start)) → IsLedFrom q old new → IsTrace b g entries goal total n old → IsAtFront b g e goal total new
+  pub at_front : (n : ℕ) (e : Entry) (q : Point) (old new : Path) → slice_get entries n ≡ Some e → HasPoint e.front q → IsAway e.front (place_of old.start) (apart q (place_of old.start)) → IsLedFrom q old new → IsTrace b g entries goal total n old → IsAtFront b g entries e goal total new
   at_front n e q old new i h a led t =
       let is : t.entry ≡ e = same_Some t.entry e (sym t.numbered ∙ i) in
       let inside : IsInStripOf e old.start = subst (λ (x : Entry). IsInStripOf x old.start) is t.inside in
@@ -76,16 +79,18 @@ module _ (b : BoardParts) (g : Ground) (sources : List Spot) (entries : List Ent
         made = t.made + apart q (place_of old.start);
         path = led.path b g e.strip goal t.made sound.ground strip inside.here (part_of_strip e listed q h) t.path;
         sum = omega (arith, t.sum, costs, way);
+        strips = led.strips entries e listed inside (part_of_strip e listed q h) t.strips;
       }
 
   -- in the front of an entry from a source box the path is whole
-  pub from_source : (j : ℕ) (e : Entry) (p : Path) → IsFromSource g sources j (arrival_of e) → IsAtFront b g e goal total p → IsWhole b g sources goal total p
+  pub from_source : (j : ℕ) (e : Entry) (p : Path) → IsFromSource g sources j (arrival_of e) → IsAtFront b g entries e goal total p → IsWhole b g sources entries goal total p
   from_source j e p s at = record {
     starts = record { box = s.box; listed = listed_at sources j s.box s.numbered; same_layer = sym s.start.same_layer ∙ sym at.same_layer; has_point = s.start.common.second (place_of p.start) at.here };
     path = subst (λ (n : ℕ). IsPath b g goal p.start (legs_of p) n) (let c = s.start.cost in let t = at.sum in omega (arith, c, t)) at.path;
+    strips = at.strips;
   }
 
-  module _ (d e : Entry) (n m : ℕ) (old new : Path) (e_at : slice_get entries n ≡ Some e) (d_at : slice_get entries m ≡ Some d) (at : IsAtFront b g e goal total old) where
+  module _ (d e : Entry) (n m : ℕ) (old new : Path) (e_at : slice_get entries n ≡ Some e) (d_at : slice_get entries m ≡ Some d) (at : IsAtFront b g entries e goal total old) where
     of_d : IsWireStrip g d.layer d.strip
     of_d = (sound.placed d (listed_at entries m d d_at)).passable
 
@@ -97,6 +102,12 @@ module _ (b : BoardParts) (g : Ground) (sources : List Spot) (entries : List Ent
 
     passes_e : IsPassableNode g old.start
     passes_e = passable_at g e.layer e.strip old.start sound.ground.proper of_e at.same_layer in_e
+
+    held_by_d : (u : Node) → IsInStripOf d u → IsInSomeStrip entries u
+    held_by_d u h = record { entry = d; listed = listed_at entries m d d_at; inside = h }
+
+    held_by_e : IsInSomeStrip entries old.start
+    held_by_e = record { entry = e; listed = listed_at entries n e e_at; inside = record { same_layer = at.same_layer; here = in_e } }
 
     -- the point where the edge is left is one step from the other strip
     pub one_step_off : IsEdgeMove g (arrival_of d) (arrival_of e) → IsOneStepOff d.strip (place_of old.start)
@@ -125,6 +136,8 @@ module _ (b : BoardParts) (g : Ground) (sources : List Spot) (entries : List Ent
         let pu : IsPassableNode g u = passable_at g d.layer d.strip u sound.ground.proper of_d layer c.here in
         let path = unit_led b g goal u old.start (legs_of old) (legs_of new) at.made sound.ground (straight_one u old.start refl c.one_step) c.one_step pu passes_e at.path c.led.legs in
         let inside : IsInStripOf d u = record { same_layer = layer; here = c.here } in
+        let straight = straight_one u old.start refl c.one_step in
+        let strips = led_stays entries u (Wire old.start) (legs_of old) (legs_of new) c.led.legs (wire_end u old.start straight) (unit_stays entries u old.start straight c.one_step (held_by_d u inside) held_by_e) at.strips in
         record {
           entry = d;
           numbered = d_at;
@@ -134,6 +147,7 @@ module _ (b : BoardParts) (g : Ground) (sources : List Spot) (entries : List Ent
           made = at.made + 1;
           path = subst (λ (x : Node). IsPath b g goal x (legs_of new) (at.made + 1)) (sym c.led.start) path;
           sum = omega (arith, at.sum, before, after, move.cost);
+          strips = subst (λ (x : Node). StaysInStrips entries x (steps_of_legs x (legs_of new))) (sym c.led.start) strips;
         }
 
     pub by_via : (k : KindId) → IsViaMove g k (arrival_of d) (arrival_of e) → IsLed (node_at d.layer (place_of old.start)) (Via k old.start) old new → IsTrace b g entries goal total m new
@@ -168,6 +182,7 @@ module _ (b : BoardParts) (g : Ground) (sources : List Spot) (entries : List Ent
         let charge = (g.kind k).charge in
         let path = path_led b g goal u step (legs_of old) (legs_of new) at.made charge at.path led.legs form (corner_at b g u sound.ground pu) (pu, stands, passes_e) refl (omega (arith, sum_by-cons (price_of g) step [])) in
         let inside : IsInStripOf d u = record { same_layer = refl; here = in_d } in
+        let strips = led_stays entries u step (legs_of old) (legs_of new) led.legs refl (held_by_d u inside, held_by_e) at.strips in
         record {
           entry = d;
           numbered = d_at;
@@ -177,6 +192,7 @@ module _ (b : BoardParts) (g : Ground) (sources : List Spot) (entries : List Ent
           made = at.made + charge;
           path = subst (λ (x : Node). IsPath b g goal x (legs_of new) (at.made + charge)) (sym led.start) path;
           sum = omega (arith, at.sum, move.cost);
+          strips = subst (λ (x : Node). StaysInStrips entries x (steps_of_legs x (legs_of new))) (sym led.start) strips;
         }
 
   -- the entry as its origin has it
@@ -184,6 +200,6 @@ module _ (b : BoardParts) (g : Ground) (sources : List Spot) (entries : List Ent
   origin_is n e o i is = subst (λ (x : Origin). IsFrom g sources entries n (arrival_of e) x) is (sound.founded n e i)
 
 -- a path that has come to no entry is whole
-pub whole_by : (b : BoardParts) (g : Ground) (sources : List Spot) (entries : List Entry) (goal : Node) (total : ℕ) (o : Option ℕ) (p : Path) → ((n : ℕ) → o ≡ Some n → ⊥) → IsTracedTo b g sources entries goal total o p → IsWhole b g sources goal total p
+pub whole_by : (b : BoardParts) (g : Ground) (sources : List Spot) (entries : List Entry) (goal : Node) (total : ℕ) (o : Option ℕ) (p : Path) → ((n : ℕ) → o ≡ Some n → ⊥) → IsTracedTo b g sources entries goal total o p → IsWhole b g sources entries goal total p
 whole_by b g sources entries goal total None p stop h = h
 whole_by b g sources entries goal total (Some n) p stop h = absurd (stop n refl)

@@ -19,12 +19,9 @@ use Rattle.board_model.specs.WellFormed.{IsPlace, IsWellFormed}
 use Rattle.plane_set.specs.Standing.{PlaneTable, HasPlanes}
 use Rattle.route_law.specs.declared.certs.Cert.{Cert}
 use Rattle.route_law.specs.declared.certs.Entry.{Entry}
-use Rattle.route_law.specs.declared.certs.Origin.{Origin}
-use Rattle.route_law.specs.declared.certs.Origin.TheVariants.{Source, Step, Via}
 use Rattle.route_law.specs.Connections.{steps_of, steps_of_legs, cost_of_legs}
 use Rattle.route_law.specs.Ground.{Ground}
-use Rattle.route_law.specs.Moves.{arrival_of}
-use Rattle.route_law.specs.Right.{IsFrom, IsRight}
+use Rattle.route_law.specs.Right.{IsRight}
 use Rattle.route_law.specs.Walks.{IsWalk, HasNode, last_node, walk_cost}
 use Rattle.route_law.proofs.Joining.{walk_cost-legs}
 use Rattle.strip_moves.specs.Grounds.{board_area, ground_of}
@@ -32,7 +29,8 @@ use Rattle.strip_moves.proofs.Grounds.{is_ground}
 use Rattle.path_trace.specs.declared.paths.Path.{Path}
 use Rattle.path_trace.specs.Lines.{HasOnlyTurns}
 use Rattle.path_trace.specs.Paths.{legs_of, IsBoardGround, IsPath}
-use Rattle.path_trace.specs.Traces.{IsInStripOf, ComesBefore, AreEarlier, IsSound, IsTrace, IsWhole}
+use Rattle.path_trace.specs.Strips.{IsInStripOf, StaysInStrips}
+use Rattle.path_trace.specs.Traces.{IsSound, IsTrace, IsWhole}
 use Rattle.path_trace.proofs.Backwards.{listed_at}
 use Rattle.path_trace.proofs.Grows.{passable_at, corner_at}
 
@@ -56,15 +54,6 @@ board_ground b n set board known h = record {
   places = λ p i. is_place b p board i;
 }
 
-earlier_by : (g : Ground) (sources : List Spot) (entries : List Entry) (n : ℕ) (e : Entry) (o : Origin) → IsFrom g sources entries n (arrival_of e) o → ComesBefore n o
-earlier_by g sources entries n e (Source j) f = tt
-earlier_by g sources entries n e (Step m) f = f.earlier
-earlier_by g sources entries n e (Via m k) f = f.earlier
-
--- the entries of a right certificate come from sources and from one another
-pub are_earlier : (g : Ground) (sources targets : List Spot) (cert : Cert) → IsRight g sources targets cert → AreEarlier cert.entries
-are_earlier g sources targets cert right n e i = earlier_by g sources cert.entries n e e.origin (right.founded n e i)
-
 pub is_sound : (b : BoardParts) (n : NetId) (set : PlaneTable) (sources targets : List Spot) (cert : Cert) → IsBoard b → n.0 < length b.net_names → HasPlanes b set → IsRight (ground_of b set n) sources targets cert → IsSound b (ground_of b set n) sources cert.entries
 is_sound b n set sources targets cert board known h right = record { ground = board_ground b n set board known h; placed = right.placed; founded = right.founded }
 
@@ -81,6 +70,7 @@ at_end b g sources entries n e way v p sound i inside away start none =
       ends = refl;
       cost = refl;
     } in
+    let held : StaysInStrips entries v [] = record { entry = e; listed = listed_at entries n e i; inside = inside } in
     let placed : IsPath b g v p.start [] 0 = subst (λ (x : Node). IsPath b g v x [] 0) (sym start) path in
     record {
       entry = e;
@@ -91,6 +81,7 @@ at_end b g sources entries n e way v p sound i inside away start none =
       made = 0;
       path = subst (λ (legs : List Leg). IsPath b g v p.start legs 0) (sym none) placed;
       sum = omega arith;
+      strips = subst (λ (legs : List Leg). StaysInStrips entries p.start (steps_of_legs p.start legs)) (sym none) (subst (λ (x : Node). StaysInStrips entries x []) (sym start) held);
     }
 
 -- a whole path that costs what the entry of the number promises for the node
@@ -99,10 +90,10 @@ pub record IsPromised (b : BoardParts) (g : Ground) (sources : List Spot) (entri
   pub numbered : slice_get entries n ≡ Some entry
   pub way : ℕ
   pub away : IsAway entry.front (place_of v) way
-  pub whole : IsWhole b g sources v (entry.cost + way) p
+  pub whole : IsWhole b g sources entries v (entry.cost + way) p
 
 abbrev pub BringsBack : List Entry → ℕ → Path → Path → Type 0
-BringsBack entries n old new = (b : BoardParts) (g : Ground) (sources : List Spot) (goal : Node) (total : ℕ) → IsSound b g sources entries → IsTrace b g entries goal total n old → IsWhole b g sources goal total new
+BringsBack entries n old new = (b : BoardParts) (g : Ground) (sources : List Spot) (goal : Node) (total : ℕ) → IsSound b g sources entries → IsTrace b g entries goal total n old → IsWhole b g sources entries goal total new
 
 pub promised : (b : BoardParts) (g : Ground) (sources : List Spot) (entries : List Entry) (n : ℕ) (v : Node) (old new : Path) → IsSound b g sources entries → n < length entries → ((e : Entry) → slice_get entries n ≡ Some e → IsInStripOf e v) → old.start ≡ v → legs_of old ≡ [] → BringsBack entries n old new → IsPromised b g sources entries n v new
 promised b g sources entries n v old new sound within inside start none back =
@@ -123,6 +114,7 @@ pub record IsTraced (b : BoardParts) (g : Ground) (sources : List Spot) (entries
   pub turns : HasOnlyTurns conn.start conn.legs
   pub starts : HasNode sources conn.start
   pub walk : IsWalk g conn.start (steps_of conn)
+  pub strips : StaysInStrips entries conn.start (steps_of conn)
   pub stops : last_node conn.start (steps_of conn) ≡ v
   pub ends : last_node conn.start conn.legs ≡ v
   pub cost : walk_cost g (steps_of conn) ≡ conn.cost
@@ -133,6 +125,7 @@ traced b g sources entries n v p conn h start legs cost =
     let total : ℕ = h.entry.cost + h.way in
     let there : IsPath b g v conn.start (legs_of p) total = subst (λ (x : Node). IsPath b g v x (legs_of p) total) (sym start) h.whole.path in
     let path : IsPath b g v conn.start conn.legs total = subst (λ (xs : List Leg). IsPath b g v conn.start xs total) (sym legs) there in
+    let held = subst (λ (x : Node). StaysInStrips entries x (steps_of_legs x (legs_of p))) (sym start) h.whole.strips in
     let costs : walk_cost g (steps_of_legs p.start (legs_of p)) ≡ total = h.whole.path.cost in
     let sum : conn.cost ≡ total = cost ∙ sym (walk_cost-legs g p.start (legs_of p)) ∙ costs in
     record {
@@ -140,6 +133,7 @@ traced b g sources entries n v p conn h start legs cost =
       turns = path.turns;
       starts = subst (λ (x : Node). HasNode sources x) (sym start) h.whole.starts;
       walk = path.walk;
+      strips = subst (λ (legs : List Leg). StaysInStrips entries conn.start (steps_of_legs conn.start legs)) (sym legs) held;
       stops = path.stops;
       ends = path.ends;
       cost = path.cost ∙ sym sum;

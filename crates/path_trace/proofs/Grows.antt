@@ -18,8 +18,11 @@ use Rattle.route_law.specs.Walks.{IsWalk, last_node, walk_cost}
 use Rattle.route_law.proofs.Joining.{walk-append, last_node-append, walk_cost-append, walk_cost-units}
 use Rattle.route_law.proofs.Passed.{node_at as passed_node, strip_passable}
 use Rattle.route_law.proofs.Wires.{wire_walk, wire_end, unit_on}
+use Rattle.route_law.specs.declared.certs.Entry.{Entry}
 use Rattle.path_trace.specs.declared.paths.Path.{Path}
 use Rattle.path_trace.specs.Paths.{node_at, bend, legs_of, MayLead, IsLedTo, IsLed, IsBoardGround, IsPath, IsLedFrom}
+use Rattle.path_trace.specs.Strips.{IsInStripOf, IsInSomeStrip, StaysInStrips}
+use Rattle.path_trace.proofs.Strips.{units_stay, led_stays}
 
 pub path_led : (b : BoardParts) (g : Ground) (goal u : Node) (leg : Leg) (legs more : List Leg) (n k : ℕ) → IsPath b g goal (end_of leg) legs n → IsLedTo u leg legs more → MayLead b u leg → IsCorner b u → IsWalk g u (steps_of_leg u leg) → last_node u (steps_of_leg u leg) ≡ end_of leg → walk_cost g (steps_of_leg u leg) ≡ k → IsPath b g goal u more (n + k)
 path_led b g goal u leg legs more n k p l m corner walk last cost =
@@ -53,7 +56,7 @@ wire_led b g t goal u v legs more n ground strip s hu hv p l =
     (walk_cost-units g (apart (place_of u) (place_of v)) u v)
 
 -- a wire of one unit, from strip to strip
-unit_end : (u v : Node) → IsStraight u v → apart (place_of u) (place_of v) ≡ 1 → node_toward u v ≡ v
+pub unit_end : (u v : Node) → IsStraight u v → apart (place_of u) (place_of v) ≡ 1 → node_toward u v ≡ v
 unit_end u v s one = subst (λ (n : ℕ). last_node u (units n u v) ≡ v) one (wire_end u v s)
 
 unit_walk : (g : Ground) (u v : Node) → IsStraight u v → apart (place_of u) (place_of v) ≡ 1 → IsPassableNode g u → IsPassableNode g v → IsWalk g u (steps_of_leg u (Wire v))
@@ -89,4 +92,17 @@ led_from q old mid new first second =
           let whole = wire_led b g t goal u c (legs_of mid) (legs_of new) (n + apart (place_of c) (place_of v)) ground strip along hq hc half on in
           let sum : n + apart (place_of c) (place_of v) + apart q (place_of c) ≡ n + apart q (place_of v) = omega (arith, by_bend q (place_of v)) in
           subst (λ (x : Node). IsPath b g goal x (legs_of new) (n + apart q (place_of v))) (sym two.start) (subst (λ (m : ℕ). IsPath b g goal u (legs_of new) m) sum whole);
+      strips = λ entries e listed inside hq h.
+          let hc : HasPoint e.strip (place_of c) = record { across = inside.here.across; up = hq.up } in
+          let in_c : IsInStripOf e c = record { same_layer = inside.same_layer; here = hc } in
+          let in_u : IsInStripOf e u = record { same_layer = inside.same_layer; here = hq } in
+          let half = led_stays entries c (Wire v) (legs_of old) (legs_of mid) one.legs (wire_end c v up) (units_stay entries e (apart (place_of c) (place_of v)) c v listed in_c inside.here) h in
+          let whole = led_stays entries u (Wire c) (legs_of mid) (legs_of new) on (wire_end u c along) (units_stay entries e (apart (place_of u) (place_of c)) u c listed in_u hc) half in
+          subst (λ (x : Node). StaysInStrips entries x (steps_of_legs x (legs_of new))) (sym two.start) whole;
     }
+
+-- a wire of one unit between strips of entries
+pub unit_stays : (entries : List Entry) (u v : Node) → IsStraight u v → apart (place_of u) (place_of v) ≡ 1 → IsInSomeStrip entries u → IsInSomeStrip entries v → StaysInStrips entries u (steps_of_leg u (Wire v))
+unit_stays entries u v s one hu hv =
+    let at : IsInSomeStrip entries (node_toward u v) = subst (λ (x : Node). IsInSomeStrip entries x) (sym (unit_end u v s one)) hv in
+    subst (λ (n : ℕ). StaysInStrips entries u (units n u v)) (sym one) (hu, at)

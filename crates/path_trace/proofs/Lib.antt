@@ -5,3 +5,4 @@ pub mod Lasts
 pub mod Grows
 pub mod Backwards
 pub mod Boards
+pub mod Strips

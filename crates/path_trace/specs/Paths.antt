@@ -1,5 +1,5 @@
 -- Legs that lead to the end of a connection, and what becomes of them when a leg is put before them.
-use Rattle.std.specs.Prelude.{ℕ, ◌≡◌, ◌+◌, List, ◌++◌, reverse}
+use Rattle.std.specs.Prelude.{ℕ, ◌≡◌, ◌+◌, List, ◌++◌, Contains, length, reverse}
 use Rattle.geo_rect.specs.declared.ids.KindId.{KindId}
 use Rattle.geo_rect.specs.declared.ids.LayerId.{LayerId}
 use Rattle.geo_rect.specs.declared.ids.Node.{Node}
@@ -13,12 +13,13 @@ use Rattle.board_model.specs.declared.parts.BoardParts.{BoardParts}
 use Rattle.board_model.specs.Lookup.{kind_of}
 use Rattle.board_model.specs.Shapes.{place_of, end_of}
 use Rattle.board_model.specs.WellFormed.{IsPlace, IsCorner, IsVia, AreSteps}
-use Rattle.std.specs.Prelude.{length}
+use Rattle.route_law.specs.declared.certs.Entry.{Entry}
 use Rattle.route_law.specs.Connections.{steps_of_leg, steps_of_legs, IsStraight}
 use Rattle.route_law.specs.Ground.{Ground, IsGround, IsWireStrip}
 use Rattle.route_law.specs.Walks.{IsWalk, last_node, walk_cost}
 use Rattle.path_trace.specs.declared.paths.Path.{Path}
 use Rattle.path_trace.specs.Lines.{HasOnlyTurns}
+use Rattle.path_trace.specs.Strips.{IsInStripOf, StaysInStrips}
 
 -- the node on a layer at a place
 abbrev pub node_at : LayerId → Point → Node
@@ -68,8 +69,9 @@ pub record IsPath (b : BoardParts) (g : Ground) (goal v : Node) (legs : List Leg
   pub ends : last_node v legs ≡ goal
   pub cost : walk_cost g (steps_of_legs v legs) ≡ n
 
--- the new path starts at q on the layer of the old one, and within each strip that the net may pass
--- and that has both starts it costs as much more as they are apart
+-- the new path starts at q on the layer of the old one; within each strip that the net may pass and that
+-- has both starts it costs as much more as they are apart, and it stays in such a strip
 pub record IsLedFrom (q : Point) (old new : Path) : Type 0 where
   pub start : new.start ≡ node_at old.start.layer q
   pub path : (b : BoardParts) (g : Ground) (t : Rect) (goal : Node) (n : ℕ) → IsBoardGround b g → IsWireStrip g old.start.layer t → HasPoint t (place_of old.start) → HasPoint t q → IsPath b g goal old.start (legs_of old) n → IsPath b g goal new.start (legs_of new) (n + apart q (place_of old.start))
+  pub strips : (entries : List Entry) (e : Entry) → Contains entries e → IsInStripOf e old.start → HasPoint e.strip q → StaysInStrips entries old.start (steps_of_legs old.start (legs_of old)) → StaysInStrips entries new.start (steps_of_legs new.start (legs_of new))

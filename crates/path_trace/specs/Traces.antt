@@ -16,13 +16,10 @@ use Rattle.route_law.specs.Ground.{Ground}
 use Rattle.route_law.specs.Moves.{arrival_of}
 use Rattle.route_law.specs.Right.{IsWellPlaced, IsFrom}
 use Rattle.route_law.specs.Walks.{HasNode}
+use Rattle.route_law.specs.Connections.{steps_of_legs}
 use Rattle.path_trace.specs.declared.paths.Path.{Path}
 use Rattle.path_trace.specs.Paths.{node_at, legs_of, IsLed, IsBoardGround, IsPath}
-
--- the node is on the layer of the entry and in its strip
-pub record IsInStripOf (e : Entry) (v : Node) : Type 0 where
-  pub same_layer : v.layer ≡ e.layer
-  pub here : HasPoint e.strip (place_of v)
+use Rattle.path_trace.specs.Strips.{IsInStripOf, StaysInStrips}
 
 -- an entry from which this one comes has a lower number than n
 abbrev pub ComesBefore : ℕ → Origin → Type 0
@@ -40,7 +37,8 @@ pub record IsSound (b : BoardParts) (g : Ground) (sources : List Spot) (entries 
   pub placed : (e : Entry) → Contains entries e → IsWellPlaced g e
   pub founded : (n : ℕ) (e : Entry) → slice_get entries n ≡ Some e → IsFrom g sources entries n (arrival_of e) e.origin
 
--- the path starts in the strip of entry n; what this entry promises there, and the path, cost total
+-- the path starts in the strip of entry n; what this entry promises there, and the path, cost
+-- total; and the path stays in strips of entries
 pub record IsTrace (b : BoardParts) (g : Ground) (entries : List Entry) (goal : Node) (total n : ℕ) (p : Path) : Type 0 where
   pub entry : Entry
   pub numbered : slice_get entries n ≡ Some entry
@@ -50,28 +48,32 @@ pub record IsTrace (b : BoardParts) (g : Ground) (entries : List Entry) (goal : 
   pub made : ℕ
   pub path : IsPath b g goal p.start (legs_of p) made
   pub sum : total ≡ entry.cost + way + made
+  pub strips : StaysInStrips entries p.start (steps_of_legs p.start (legs_of p))
 
--- the path starts in the front of the entry; what the entry costs, and the path, cost total
-pub record IsAtFront (b : BoardParts) (g : Ground) (e : Entry) (goal : Node) (total : ℕ) (p : Path) : Type 0 where
+-- the path starts in the front of the entry; what the entry costs, and the path, cost total; and the
+-- path stays in strips of entries
+pub record IsAtFront (b : BoardParts) (g : Ground) (entries : List Entry) (e : Entry) (goal : Node) (total : ℕ) (p : Path) : Type 0 where
   pub same_layer : p.start.layer ≡ e.layer
   pub here : HasPoint e.front (place_of p.start)
   pub made : ℕ
   pub path : IsPath b g goal p.start (legs_of p) made
   pub sum : total ≡ e.cost + made
+  pub strips : StaysInStrips entries p.start (steps_of_legs p.start (legs_of p))
 
--- the path starts in a source box, and costs total
-pub record IsWhole (b : BoardParts) (g : Ground) (sources : List Spot) (goal : Node) (total : ℕ) (p : Path) : Type 0 where
+-- the path starts in a source box, costs total, and stays in strips of entries
+pub record IsWhole (b : BoardParts) (g : Ground) (sources : List Spot) (entries : List Entry) (goal : Node) (total : ℕ) (p : Path) : Type 0 where
   pub starts : HasNode sources p.start
   pub path : IsPath b g goal p.start (legs_of p) total
+  pub strips : StaysInStrips entries p.start (steps_of_legs p.start (legs_of p))
 
 -- the path is whole, or has come to the entry of the number
 abbrev pub IsTracedTo : BoardParts → Ground → List Spot → List Entry → Node → ℕ → Option ℕ → Path → Type 0
-IsTracedTo b g sources entries goal total None p = IsWhole b g sources goal total p
+IsTracedTo b g sources entries goal total None p = IsWhole b g sources entries goal total p
 IsTracedTo b g sources entries goal total (Some n) p = IsTrace b g entries goal total n p
 
 -- a path in the front of the entry, which has the number n, becomes one that is whole or comes to an earlier entry
 abbrev pub LeavesEntry : List Entry → ℕ → Entry → Option ℕ → Path → Path → Type 0
-LeavesEntry entries n e before old new = (b : BoardParts) (g : Ground) (sources : List Spot) (goal : Node) (total : ℕ) → IsSound b g sources entries → slice_get entries n ≡ Some e → IsAtFront b g e goal total old → IsTracedTo b g sources entries goal total before new
+LeavesEntry entries n e before old new = (b : BoardParts) (g : Ground) (sources : List Spot) (goal : Node) (total : ℕ) → IsSound b g sources entries → slice_get entries n ≡ Some e → IsAtFront b g entries e goal total old → IsTracedTo b g sources entries goal total before new
 
 -- a path in the strip of entry n becomes one that is whole or comes to an earlier entry
 abbrev pub GoesBack : List Entry → ℕ → Option ℕ → Path → Path → Type 0

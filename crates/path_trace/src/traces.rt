@@ -4,7 +4,6 @@ ghost use Rattle.std.specs.Prelude.{◌≡◌, ℕ, ◌+◌, ◌<◌, List, Some
 ghost use Rattle.geo_rect.specs.declared.ids.Node.{Node as Place};
 ghost use Rattle.geo_rect.specs.declared.ids.Spot.{Spot as Box};
 ghost use Rattle.geo_rect.specs.Distance.{IsAway};
-ghost use Rattle.geo_rect.specs.Plane.{HasPoint};
 ghost use Rattle.board_model.specs.declared.parts.BoardParts.{BoardParts};
 ghost use Rattle.board_model.specs.Shapes.{place_of};
 ghost use Rattle.board_model.specs.WellFormed.{IsWellFormed};
@@ -16,21 +15,21 @@ ghost use Rattle.route_law.specs.Right.{IsRight};
 ghost use Rattle.route_law.specs.Walks.{IsWalk, HasNode, last_node, walk_cost};
 ghost use Rattle.strip_moves.specs.Grounds.{ground_of};
 ghost use Rattle.path_trace.specs.Lines.{HasOnlyTurns};
-ghost use Rattle.path_trace.specs.Paths.{IsLedFrom};
-ghost use Rattle.path_trace.specs.Traces.{IsInStripOf, ComesBefore, AreEarlier, IsSound, IsTrace, IsWhole, LeavesEntry, GoesBack, IsOneStepOff, IsCrossed};
+ghost use Rattle.path_trace.specs.Strips.{IsInStripOf, StaysInStrips};
+ghost use Rattle.path_trace.specs.Traces.{ComesBefore, AreEarlier, IsSound, IsTrace, IsWhole, LeavesEntry, GoesBack, IsOneStepOff, IsCrossed};
 
 use crate::paths::Path;
 use crate::points::{nearest, node_at, place_of};
 use board_model::{Board, Conn};
-use geo_rect::{NetId, NoMemory, Node, Point, Rect, Spot};
+use geo_rect::{NetId, NoMemory, Node, Rect, Spot};
 use plane_core::Plane;
 use plane_set::PlaneSet;
 use route_law::{Cert, Entry, Origin};
 use std::alloc::Global;
 
 /// A connection that costs what the entry of this number promises for the node `end` of its strip:
-/// it leads there from a source box, by the entries from which the entry comes. It has no leg where
-/// it starts in its end, and a turn or a via between any two of its wires.
+/// it leads there from a source box, by the entries from which the entry comes, and stays in their
+/// strips. No wire goes on in the direction of a wire right before it.
 pub fn trace<P: Plane>(
     alloc: Global,
     board: &Board,
@@ -51,6 +50,7 @@ pub fn trace<P: Plane>(
     ensures turns { IfOk result (λ conn. HasOnlyTurns conn.start conn.legs) }
     ensures starts { IfOk result (λ conn. HasNode sources.now conn.start) }
     ensures walk { IfOk result (λ conn. IsWalk (ground_of board.now.parts planes.now net) conn.start (steps_of conn)) }
+    ensures strips { IfOk result (λ conn. StaysInStrips cert.now.entries conn.start (steps_of conn)) }
     ensures stops { IfOk result (λ conn. last_node conn.start (steps_of conn) ≡ end) }
     ensures ends { IfOk result (λ conn. last_node conn.start conn.legs ≡ end) }
     ensures cost { IfOk result (λ conn. walk_cost (ground_of board.now.parts planes.now net) (steps_of conn) ≡ conn.cost) }
@@ -67,7 +67,7 @@ fn go_back(entries: &[Entry], entry: u64, path: &mut Path) -> Result<(), NoMemor
     requires there { entry < length entries.now }
     requires earlier { AreEarlier entries.now }
     ensures { OnOk result ((b : BoardParts) (g : Ground) (sources : List Box) (goal : Place) (total : ℕ) → IsSound b g sources entries.now
-        → IsTrace b g entries.now goal total entry path.old → IsWhole b g sources goal total path.new) }
+        → IsTrace b g entries.now goal total entry path.old → IsWhole b g sources entries.now goal total path.new) }
 {
     let mut next = Some(entry);
     while let Some(number) = next {

@@ -38,6 +38,7 @@ returns g c =
       turns = conn.turns;
       starts = conn.starts;
       walk = conn.walk;
+      strips = conn.strips;
       stops = conn.stops;
       ends = conn.ends;
       cost = conn.cost;
