@@ -1,19 +1,19 @@
 -- Rectangles on the largest board.
-use Rattle.std.proofs.Common.{ℕ, ℤ, pos, ◌+◌, ◌^◌, ◌≤◌, ◌≤ℤ◌, arith}
+use Rattle.std.proofs.Common.{ℕ, ℤ, pos, ◌+◌, ◌^◌, ◌<◌, ◌≤◌, ◌≤ℤ◌, arith}
 use Rattle.std.proofs.lemmas.Int.{ints}
-use Rattle.geo_rect.specs.declared.shapes.Interval.{Interval}
+use Rattle.geo_rect.specs.declared.ids.NetId.{NetId}
 use Rattle.geo_rect.specs.declared.shapes.Point.{Point}
 use Rattle.geo_rect.specs.declared.shapes.Rect.{Rect}
-use Rattle.geo_rect.specs.Axis.{HasNumber, LiesWithin, IsSmall}
 use Rattle.geo_rect.specs.Distance.{IsDistance}
 use Rattle.geo_rect.specs.Line.{between}
-use Rattle.geo_rect.specs.Plane.{columns, rows, HasPoint, LiesIn, IsBounded}
+use Rattle.geo_rect.specs.Plane.{columns, rows, HasPoint, LiesIn}
 use Rattle.geo_rect.proofs.Parts.{low_in, lies_in_from}
-use Rattle.board_model.specs.declared.limits.TheConstants.{MAX_SIDE}
 use Rattle.board_model.specs.declared.parts.BoardParts.{BoardParts}
 use Rattle.board_model.specs.Rules.{IsBoard, IsOnBoard}
-use Rattle.strip_moves.specs.Departures.{IsOnLargestBoard}
-use Rattle.strip_moves.specs.Grounds.{board_area, upto}
+use Rattle.route_law.specs.declared.certs.Entry.{Entry}
+use Rattle.route_law.specs.declared.certs.Origin.{Origin}
+use Rattle.strip_moves.specs.Departures.{IsOnLargestBoard, IsOpen}
+use Rattle.strip_moves.specs.Grounds.{board_area}
 
 abbrev first : Rect → Point
 first r = record { x = r.x0; y = r.y0 }
@@ -57,3 +57,14 @@ on_board_inside b r h = record {
   across = record { from = omega (arith, ints, h.left); to = omega (arith, ints, h.right) };
   up = record { from = omega (arith, ints, h.below); to = omega (arith, ints, h.above) };
 }
+
+-- an entry in a strip of the board, left for strips of its layer
+pub open_on_board : (b : BoardParts) → IsBoard b → (o : Origin) (e : Entry) → LiesIn e.strip (board_area b) → LiesIn e.front e.strip → e.cost + 2 ^ 26 < 2 ^ 128 → (net : NetId) → IsOpen (record { net = net; from = e; origin = o; layer = e.layer; charge = 0 })
+open_on_board b board o e inside holds cost net =
+    let strip = part_on_board e.strip (board_area b) inside (area_on_board b board) in
+    record {
+      strip = strip;
+      front = part_on_board e.front e.strip holds strip;
+      cost = cost;
+      charge = omega arith;
+    }

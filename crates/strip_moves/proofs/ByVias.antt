@@ -1,13 +1,11 @@
 -- The jumps to the other layer of a kind are the moves by vias of the kind.
-use Rattle.std.proofs.Common.{ℕ, ◌≡◌, ◌+◌, ◌<◌, ◌↔◌, refl, sym, ◌∙◌, ap, subst, List, Contains, arith}
+use Rattle.std.proofs.Common.{ℕ, ◌≡◌, ◌+◌, ◌↔◌, refl, sym, ◌∙◌, ap, subst, List, Contains}
 use Rattle.geo_rect.specs.declared.ids.KindId.{KindId}
 use Rattle.geo_rect.specs.declared.ids.LayerId.{LayerId}
 use Rattle.geo_rect.specs.declared.ids.NetId.{NetId}
-use Rattle.geo_rect.specs.declared.shapes.Rect.{Rect}
-use Rattle.board_model.specs.declared.parts.ViaKind.{ViaKind}
-use Rattle.board_model.specs.Labels.{Admits, IsInSpan}
+use Rattle.board_model.specs.Labels.{Admits}
 use Rattle.plane_core.specs.declared.strips.Strip.{Strip}
-use Rattle.route_law.specs.Ground.{Ground, HasLayer, HasKind, IsPassableStrip, IsWireStrip, IsViaStrip}
+use Rattle.route_law.specs.Ground.{Ground, HasLayer, HasKind, IsPassableStrip, IsWireStrip}
 use Rattle.route_law.specs.Moves.{Arrival, arrival_of, IsViaMove}
 use Rattle.strip_moves.specs.declared.departures.Departure.{Departure}
 use Rattle.strip_moves.specs.Spans.{IsOtherLayer}

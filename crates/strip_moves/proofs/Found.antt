@@ -1,10 +1,8 @@
 -- What a plane finds, and the ways into what it found.
 use Rattle.std.proofs.Common.{◌≡◌, List, sym, subst}
 use Rattle.std.specs.Prelude.{Contains}
-use Rattle.geo_rect.specs.declared.ids.NetId.{NetId}
-use Rattle.geo_rect.specs.declared.shapes.Point.{Point}
 use Rattle.geo_rect.specs.declared.shapes.Rect.{Rect}
-use Rattle.geo_rect.specs.Plane.{HasPoint, IsMeet, ShareNoPoint}
+use Rattle.geo_rect.specs.Plane.{IsMeet, ShareNoPoint}
 use Rattle.board_model.specs.Labels.{Admits}
 use Rattle.plane_core.specs.declared.sides.Side.{Side}
 use Rattle.plane_core.specs.declared.strips.Strip.{Strip}

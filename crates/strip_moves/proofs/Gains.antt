@@ -1,5 +1,5 @@
 -- How a list of entries gains arrivals: none, one, some after others, and those of strip after strip.
-use Rattle.std.proofs.Common.{ℕ, ◌≡◌, ◌+◌, ◌<◌, ◌⊎◌, inl, inr, List, [], ◌∷◌, ◌++◌, length, take, get_or, refl, sym, ◌∙◌, ap, subst, arith}
+use Rattle.std.proofs.Common.{ℕ, ◌≡◌, ◌+◌, ◌<◌, ◌⊎◌, inl, inr, List, [], ◌∷◌, ◌++◌, length, take, get_or, sym, ◌∙◌, ap, subst}
 use Rattle.std.specs.Prelude.{Contains}
 use Rattle.std.proofs.lemmas.List.{take_more}
 use Rattle.std.proofs.lemmas.List.Elements.{Contains-append_left, Contains-push, Contains-push_cases}
@@ -24,14 +24,14 @@ module _ (o : Origin) where
   gains_one old new e W is from w one =
       subst (λ (es : List Entry). Gains old es o W) (sym is)
       (
-        record {
-          kept = λ x h. Contains-append_left old (e ∷ []) x h;
-          each = λ x h. elim (Contains-push_cases old e x h) [
-            | inl k ↦ inl k
-            | inr same ↦ inr (subst (λ (y : Entry). IsWantedFrom o W y) same (record { from = from; wanted = w }))
-          ];
-          all = λ a v. record { entry = e; listed = Contains-push old e; same = one (arrival_of e) a w v; from = from };
-        }
+      record {
+        kept = λ x h. Contains-append_left old (e ∷ []) x h;
+        each = λ x h. elim (Contains-push_cases old e x h) [
+          | inl k ↦ inl k
+          | inr same ↦ inr (subst (λ (y : Entry). IsWantedFrom o W y) same (record { from = from; wanted = w }))
+        ];
+        all = λ a v. record { entry = e; listed = Contains-push old e; same = one (arrival_of e) a w v; from = from };
+      }
       )
 
   pub gains_as : (old new : List Entry) (V W : Arrival → Type 0) → ((a : Arrival) → V a → W a) → ((a : Arrival) → W a → V a) → Gains old new o V → Gains old new o W

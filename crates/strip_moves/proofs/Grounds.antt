@@ -1,5 +1,5 @@
 -- The planes of a state are a ground for each net, on which it may pass what the shapes leave to it.
-use Rattle.std.proofs.Common.{◌≡◌, ◌<◌, ℕ, ℤ, pos, ◌≤ℤ◌, List, [], Option, Some, ◌↔◌, inl, inr, length, get_or, refl, sym, ◌∙◌, ap, subst, arith}
+use Rattle.std.proofs.Common.{◌≡◌, ◌<◌, ℕ, ℤ, pos, List, [], Some, ◌↔◌, inl, inr, length, get_or, sym, ◌∙◌, ap, subst, arith}
 use Rattle.std.specs.Prelude.{slice_get, unsigned_abs}
 use Rattle.std.proofs.lemmas.Int.{ints}
 use Rattle.std.proofs.lemmas.Option.{slice_get-get_or, slice_get_cases}
@@ -12,7 +12,8 @@ use Rattle.geo_rect.specs.declared.ids.NetId.{NetId}
 use Rattle.geo_rect.specs.declared.ids.Node.{Node}
 use Rattle.geo_rect.specs.declared.shapes.Point.{Point}
 use Rattle.geo_rect.specs.declared.shapes.Rect.{Rect}
-use Rattle.geo_rect.specs.Plane.{columns, rows, HasPoint}
+use Rattle.geo_rect.specs.Plane.{columns, rows, HasPoint, LiesIn}
+use Rattle.geo_rect.proofs.Parts.{lies_in_from}
 use Rattle.geo_rect.proofs.Same.{same_interval, same_rect}
 use Rattle.board_model.specs.declared.parts.BoardParts.{BoardParts}
 use Rattle.board_model.specs.declared.shapes.Shape.{Shape}
@@ -22,12 +23,13 @@ use Rattle.board_model.specs.Rules.{IsBoard, IsSide}
 use Rattle.board_model.specs.Shapes.{place_of}
 use Rattle.plane_core.specs.declared.strips.Strip.{Strip}
 use Rattle.plane_core.specs.Labels.{label_of, IsPlane}
+use Rattle.plane_core.proofs.Alike.{strip_inside}
 use Rattle.plane_set.specs.declared.families.Family.{Family}
 use Rattle.plane_set.specs.declared.families.Family.TheVariants.{Wires, Vias}
 use Rattle.plane_set.specs.Drawings.{Drawing, IsBoardArea, IsBoardPlane, Shows}
 use Rattle.plane_set.specs.Families.{AreRows, AreBoardRows, HaveAllClasses, rule_in}
 use Rattle.plane_set.specs.Standing.{PlaneTable, HasPlanes, StandsFor}
-use Rattle.route_law.specs.Ground.{IsGround, IsPassableNode, IsPassableVia}
+use Rattle.route_law.specs.Ground.{IsGround, IsPassableNode, IsPassableVia, IsWireStrip}
 use Rattle.strip_moves.specs.Grounds.{board_area, ground_of, strips_at, strips_in, upto, IsBoardNode}
 
 -- there is a plane of class c in the row of number n, and it is one of the board
@@ -108,8 +110,7 @@ module _ (b : BoardParts) (board : IsBoard b) where
     passes_node shapes set v h on =
         let size = h.planes.layers in
         let layer = on.layer in
-        let e = label_there Wires shapes set.wires v.layer.0 h.wires (omega arith) (wire_plane_found set h.planes v.layer.0 on.layer) (place_of v) on.place in
-        (
+        let e = label_there Wires shapes set.wires v.layer.0 h.wires (omega arith) (wire_plane_found set h.planes v.layer.0 on.layer) (place_of v) on.place in (
           λ q. subst (λ (m : Label). Admits m n) e q.admits,
           λ q. record { on_layer = on.layer; in_region = on.place; admits = subst (λ (m : Label). Admits m n) (sym e) q },
         )
@@ -117,8 +118,25 @@ module _ (b : BoardParts) (board : IsBoard b) where
     pub passes_via : (shapes : List Shape) (set : PlaneTable) (k : KindId) (p : Point) → StandsFor b shapes set → k.0 < length b.kinds → HasPoint (board_area b) p → IsPassableVia (ground_of b set n) k p ↔ IsViaPassable b shapes n k p
     passes_via shapes set k p h of_kind on =
         let size = h.planes.kinds in
-        let e = label_there Vias shapes set.vias k.0 h.vias (omega arith) (via_plane_found set h.planes k.0 of_kind) p on in
-        (
+        let e = label_there Vias shapes set.vias k.0 h.vias (omega arith) (via_plane_found set h.planes k.0 of_kind) p on in (
           λ q. subst (λ (m : Label). Admits m n) e q.admits,
           λ q. record { of_kind = of_kind; in_region = on; admits = subst (λ (m : Label). Admits m n) (sym e) q },
         )
+
+module _ (b : BoardParts) (board : IsBoard b) (n : NetId) (known : n.0 < length b.net_names) (set : PlaneTable) (h : HasPlanes b set) (l : LayerId) where
+  wires : l.0 < length b.layers → IsPlane (board_area b) (strips_at set.wires l.0 (class_of b n))
+  wires on_layer = (is_ground b board n known set h).wires l on_layer
+
+  -- what has the region and the strips of a layer of the ground is a plane
+  pub wires_plane : l.0 < length b.layers → (region : Rect) (strips : List Strip) → region ≡ board_area b → strips ≡ strips_at set.wires l.0 (class_of b n) → IsPlane region strips
+  wires_plane on_layer region strips er es =
+      let P : Rect → Type 0 = λ r. IsPlane r strips in
+      let Q : List Strip → Type 0 = λ ss. IsPlane (board_area b) ss in
+      subst P (sym er) (subst Q (sym es) (wires on_layer))
+
+  -- a strip of the ground that the net may pass lies in the board
+  pub wire_inside : (t : Rect) → IsWireStrip (ground_of b set n) l t → LiesIn t (board_area b)
+  wire_inside t w =
+      let strips : List Strip = strips_at set.wires l.0 (class_of b n) in
+      let s : Strip = record { area = t; label = w.strip.label } in
+      lies_in_from t (board_area b) (λ p k. strip_inside (board_area b) (label_of strips) s p ((wires w.on_layer).each s w.strip.listed) k)

@@ -1,3 +1,4 @@
+pub mod AllMoves
 pub mod Away
 pub mod Boards
 pub mod ByVias

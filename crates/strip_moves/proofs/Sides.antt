@@ -1,7 +1,8 @@
 -- Of the strips of a plane those that have an edge with one of them are beside it, on some side.
-use Rattle.std.proofs.Common.{ℤ, pos, ◌≡◌, ◌≢◌, ◌+ℤ◌, ◌-ℤ◌, ◌⊎◌, inl, inr, None, refl, sym, ap, subst, List, arith}
+use Rattle.std.proofs.Common.{ℕ, ℤ, pos, ◌≡◌, ◌<◌, length, get_or, ◌+ℤ◌, ◌-ℤ◌, ◌⊎◌, inl, inr, None, refl, sym, subst, List, arith}
 use Rattle.std.specs.Prelude.{Contains}
 use Rattle.std.proofs.lemmas.Int.{ints}
+use Rattle.std.proofs.lemmas.List.Elements.{Contains-get_or}
 use Rattle.geo_rect.specs.declared.shapes.Interval.{Interval}
 use Rattle.geo_rect.specs.declared.shapes.Point.{Point}
 use Rattle.geo_rect.specs.declared.shapes.Rect.{Rect}
@@ -12,9 +13,10 @@ use Rattle.geo_rect.proofs.Bands.{edge_none_if}
 use Rattle.plane_core.specs.declared.sides.Side.{Side}
 use Rattle.plane_core.specs.declared.sides.Side.TheVariants.{Left, Below, Right, Above}
 use Rattle.plane_core.specs.declared.strips.Strip.{Strip}
+use Rattle.plane_core.specs.Choice.{IsChoice}
 use Rattle.plane_core.specs.Labels.{label_of, IsPlane}
 use Rattle.plane_core.specs.Sides.{turned, turned_point, IsLeftOf, IsBeside}
-use Rattle.plane_core.proofs.Alike.{strips_meet}
+use Rattle.plane_core.proofs.Alike.{strip_inside, strips_meet}
 use Rattle.plane_core.proofs.Turns.{mirrored_has, points_turn}
 use Rattle.route_law.proofs.Doors.{meet_cases}
 use Rattle.strip_moves.proofs.Ways.{first_point, has_first}
@@ -34,6 +36,19 @@ pub beside_apart : (domain : Rect) (strips : List Strip) (side : Side) (t s : St
 beside_apart domain strips side t s plane ht hs beside p in_t in_s =
     let e : t ≡ s = strips_meet domain (label_of strips) t s p (plane.each t ht) (plane.each s hs) in_t in_s in
     beside_itself side s.area (subst (λ (x : Strip). IsBeside side x.area s.area) e beside)
+
+-- a strip that a plane found on a side of t
+module _ (domain : Rect) (strips items : List Strip) (side : Side) (t : Strip) (plane : IsPlane domain strips) (listed : Contains strips t) (choice : IsChoice strips (λ s. IsBeside side t.area s.area) items)
+    (i : ℕ) (u : Strip) (within : i < length items) (is : u ≡ get_or items i u) where
+  here : Contains items u
+  here = subst (Contains items) (sym is) (Contains-get_or items i u within)
+
+  pub found_inside : (p : Point) → HasPoint u.area p → HasPoint domain p
+  found_inside p h = strip_inside domain (label_of strips) u p (plane.each u (choice.listed u here)) h
+
+  pub found_apart : (old : Rect) → t.area ≡ old → ShareNoPoint old u.area
+  found_apart old same =
+      subst (λ (r : Rect). ShareNoPoint r u.area) same (beside_apart domain strips side t u plane listed (choice.listed u here) (choice.wanted u here))
 
 just_number : (w v : ℤ) → HasNumber (just w) v → v ≡ w
 just_number w v h = let f = h.from in let k = h.to in omega (arith, ints)

@@ -80,3 +80,10 @@ pub record IsStartIn (box : Spot) (net : NetId) (u : Strip) (b : Arrival) : Type
   pub same_strip : b.strip ≡ u.area
   pub common : IsMeet u.area box.area b.front
   pub cost : b.cost ≡ 0
+
+-- b starts in a strip that the net may pass, with what the strip has of the box
+pub record IsStartAmong (strips : List Strip) (box : Spot) (net : NetId) (b : Arrival) : Type 0 where
+  pub passable : IsPassableStrip strips net b.strip
+  pub same_layer : b.layer ≡ box.layer
+  pub common : IsMeet b.strip box.area b.front
+  pub cost : b.cost ≡ 0

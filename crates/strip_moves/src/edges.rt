@@ -26,11 +26,21 @@ pub fn push_steps<P: Plane>(
     requires passable { IsPassableStrip (P.strips plane.now) d.net d.from.strip }
     ensures { OnOk result (Gains moves.old moves.new d.origin (IsStepAway (P.strips plane.now) d)) }
 {
-    let t = plane.strip_at(corner(d.from.strip));
+    let t = old_strip(plane, d);
     push_steps_on_side(alloc, plane, moves, d, t, Side::Left)?;
     push_steps_on_side(alloc, plane, moves, d, t, Side::Below)?;
     push_steps_on_side(alloc, plane, moves, d, t, Side::Right)?;
     push_steps_on_side(alloc, plane, moves, d, t, Side::Above)
+}
+
+/// The strip of the plane that the net leaves.
+fn old_strip<P: Plane>(plane: &P, d: Departure) -> Strip
+    requires canonical { IsPlane (P.region plane.now) (P.strips plane.now) }
+    requires passable { IsPassableStrip (P.strips plane.now) d.net d.from.strip }
+    ensures listed { Contains (P.strips plane.now) result }
+    ensures same { result.area ≡ d.from.strip }
+{
+    plane.strip_at(corner(d.from.strip))
 }
 
 /// The lower left point of a rectangle.

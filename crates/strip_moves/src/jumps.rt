@@ -74,12 +74,7 @@ fn push_jumps_within<P: Plane>(
 }
 
 /// Adds what comes into `u` through what it has of `part`, if the net may pass it.
-fn push_jump(
-    moves: &mut List<Entry>,
-    d: Departure,
-    part: Rect,
-    u: Strip,
-) -> Result<(), NoMemory>
+fn push_jump(moves: &mut List<Entry>, d: Departure, part: Rect, u: Strip) -> Result<(), NoMemory>
     requires open { IsOpen d }
     requires area { IsOnLargestBoard part }
     ensures { OnOk result (Gains moves.old moves.new d.origin (IsJumpInto d part u)) }

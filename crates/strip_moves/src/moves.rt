@@ -54,7 +54,15 @@ pub fn moves_of<P: Plane>(
     let plane = wires_of(board, planes, net, from.layer);
     push_steps(alloc, plane, &mut moves, steps)?;
     for kind in 0..board.kinds() {
-        push_jumps_by(alloc, board, planes, &mut moves, steps, number, KindId(kind))?;
+        push_jumps_by(
+            alloc,
+            board,
+            planes,
+            &mut moves,
+            steps,
+            number,
+            KindId(kind),
+        )?;
     }
     Ok(moves)
 }

@@ -24,12 +24,7 @@ pub fn wires_of<'a, P: Plane>(
 }
 
 /// The plane of the net's vias of kind `k`.
-pub fn vias_of<'a, P: Plane>(
-    board: &Board,
-    planes: &'a PlaneSet<P>,
-    net: NetId,
-    k: KindId,
-) -> &'a P
+pub fn vias_of<'a, P: Plane>(board: &Board, planes: &'a PlaneSet<P>, net: NetId, k: KindId) -> &'a P
     requires planes { HasPlanes board.now.parts planes.now }
     requires net { net.0 < length board.now.parts.net_names }
     requires kind { k.0 < length board.now.parts.kinds }

@@ -1,4 +1,5 @@
 ghost use Rattle.std.specs.Prelude.{◌<◌, length, All, IfOk, OnOk};
+ghost use Rattle.geo_rect.specs.Plane.{LiesIn};
 ghost use Rattle.board_model.specs.Rules.{IsOnBoard};
 ghost use Rattle.plane_set.specs.Standing.{HasPlanes};
 ghost use Rattle.route_law.specs.declared.certs.Origin.TheVariants.{Source};
@@ -7,7 +8,7 @@ ghost use Rattle.route_law.specs.Right.{IsStart};
 ghost use Rattle.strip_moves.specs.Gains.{Gains};
 ghost use Rattle.strip_moves.specs.Grounds.{ground_of};
 ghost use Rattle.strip_moves.specs.Listed.{HasArrival, IsStartFrom};
-ghost use Rattle.strip_moves.specs.Ways.{IsStartIn};
+ghost use Rattle.strip_moves.specs.Ways.{IsStartIn, IsStartAmong};
 
 use crate::labels::admits;
 use crate::net_planes::wires_of;
@@ -38,11 +39,27 @@ pub fn starts_of<P: Plane>(
 {
     let mut starts = List::new(alloc);
     let plane = wires_of(board, planes, net, source.layer);
+    push_starts(alloc, plane, &mut starts, net, number, source)?;
+    Ok(starts)
+}
+
+/// Adds what the strips of the plane that the net may pass have of the source box.
+fn push_starts<P: Plane>(
+    alloc: Global,
+    plane: &P,
+    starts: &mut List<Entry>,
+    net: NetId,
+    number: u64,
+    source: Spot,
+) -> Result<(), NoMemory>
+    requires { LiesIn source.area (P.region plane.now) }
+    ensures { OnOk result (Gains starts.old starts.new (Source number) (IsStartAmong (P.strips plane.now) source net)) }
+{
     let found = plane.strips_in(alloc, source.area)?;
     for u in found.as_slice() {
-        push_start(&mut starts, net, number, source, *u)?;
+        push_start(starts, net, number, source, *u)?;
     }
-    Ok(starts)
+    Ok(())
 }
 
 /// Adds what the strip `u` of the layer of the source box has of it, if the net may pass `u`.

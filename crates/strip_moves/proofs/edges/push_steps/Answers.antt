@@ -3,37 +3,9 @@ use Rattle.std.proofs.lemmas.Result.{on_ok_weaker}
 use Rattle.plane_core.specs.declared.sides.Side.TheVariants.{Left, Below, Right, Above}
 use Rattle.route_law.specs.Moves.{Arrival}
 use Rattle.strip_moves.specs.Ways.{IsStepOnSide, IsStepAway}
-use Rattle.strip_moves.proofs.Away.{IsStepAround, same_strip, point_inside, away_of, of_away}
+use Rattle.strip_moves.proofs.Away.{IsStepAround, away_of, of_away}
 use Rattle.strip_moves.proofs.Gains.{gains_as, gains_both}
 use Rattle.strip_moves.proofs.edges.push_steps.Goals as goal
-
-pub strip_at-t-requires : goal.strip_at-t-requires
-strip_at-t-requires g c =
-    point_inside (g.P.Plane.region c.args.plane.now) (g.P.Plane.strips c.args.plane.now) c.args.d c.requires.canonical c.requires.passable c.corner.result c.corner.ensures
-
-pub push_steps_on_side-requires-clause-same : goal.push_steps_on_side-requires-clause-same
-push_steps_on_side-requires-clause-same g c =
-    let t = c.strip_at-t in
-    same_strip (g.P.Plane.region c.args.plane.now) (g.P.Plane.strips c.args.plane.now) c.args.d c.requires.canonical c.requires.passable
-    t.result c.corner.result t.ensures.listed t.ensures.has_point c.corner.ensures
-
-pub push_steps_on_side-requires-2-clause-same : goal.push_steps_on_side-requires-2-clause-same
-push_steps_on_side-requires-2-clause-same g c =
-    let t = c.strip_at-t in
-    same_strip (g.P.Plane.region c.args.plane.now) (g.P.Plane.strips c.args.plane.now) c.args.d c.requires.canonical c.requires.passable
-    t.result c.corner.result t.ensures.listed t.ensures.has_point c.corner.ensures
-
-pub push_steps_on_side-requires-3-clause-same : goal.push_steps_on_side-requires-3-clause-same
-push_steps_on_side-requires-3-clause-same g c =
-    let t = c.strip_at-t in
-    same_strip (g.P.Plane.region c.args.plane.now) (g.P.Plane.strips c.args.plane.now) c.args.d c.requires.canonical c.requires.passable
-    t.result c.corner.result t.ensures.listed t.ensures.has_point c.corner.ensures
-
-pub push_steps_on_side-requires-4-clause-same : goal.push_steps_on_side-requires-4-clause-same
-push_steps_on_side-requires-4-clause-same g c =
-    let t = c.strip_at-t in
-    same_strip (g.P.Plane.region c.args.plane.now) (g.P.Plane.strips c.args.plane.now) c.args.d c.requires.canonical c.requires.passable
-    t.result c.corner.result t.ensures.listed t.ensures.has_point c.corner.ensures
 
 pub returns : goal.returns
 returns g c =

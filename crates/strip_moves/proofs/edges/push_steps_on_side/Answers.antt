@@ -1,19 +1,13 @@
 use Rattle.std.proofs.Common.{◌≡◌, List, length, sym, subst, arith}
-use Rattle.std.specs.Prelude.{Contains}
-use Rattle.std.proofs.lemmas.List.Elements.{Contains-get_or}
-use Rattle.geo_rect.specs.declared.shapes.Rect.{Rect}
-use Rattle.geo_rect.specs.Plane.{ShareNoPoint}
 use Rattle.plane_core.specs.declared.strips.Strip.{Strip}
 use Rattle.plane_core.specs.Choice.{IsChoice}
-use Rattle.plane_core.specs.Labels.{label_of}
 use Rattle.plane_core.specs.Sides.{IsBeside}
-use Rattle.plane_core.proofs.Alike.{strip_inside}
 use Rattle.strip_moves.specs.Gains.{IsFromOneOf}
 use Rattle.strip_moves.specs.Ways.{IsStepInto, IsStepOnSide}
 use Rattle.strip_moves.proofs.Boards.{points_on_board}
 use Rattle.strip_moves.proofs.Found.{step_of, of_step}
 use Rattle.strip_moves.proofs.Gains.{gains_as, gains_more, gains_whole}
-use Rattle.strip_moves.proofs.Sides.{beside_apart}
+use Rattle.strip_moves.proofs.Sides.{found_inside, found_apart}
 use Rattle.strip_moves.proofs.edges.push_steps_on_side.Goals as goal
 
 pub push_step-requires-clause-area : goal.push_step-requires-clause-area
@@ -21,25 +15,18 @@ push_step-requires-clause-area g c =
     let domain = g.P.Plane.region c.args.plane.now in
     let strips = g.P.Plane.strips c.args.plane.now in
     let items = c.as_slice-u-items.result.now in
-    let side = c.args.side in
-    let t = c.args.t in
-    let u = c.u-item.result in
-    let choice : IsChoice strips (λ s. IsBeside side t.area s.area) items = subst (λ (ss : List Strip). IsChoice strips (λ s. IsBeside side t.area s.area) ss) (sym c.as_slice-u-items.ensures) c.in_ok-found.ensures in
-    let here : Contains items u = subst (Contains items) (sym c.u-item.is) (Contains-get_or items c.loop-u.u-index u (omega arith)) in
-    points_on_board u.area domain (λ p h. strip_inside domain (label_of strips) u p (c.requires.canonical.each u (choice.listed u here)) h) c.requires.region
+    let choice = subst (λ (ss : List Strip). IsChoice strips (λ s. IsBeside c.args.side c.args.t.area s.area) ss) (sym c.as_slice-u-items.ensures) c.in_ok-found.ensures in
+    points_on_board c.u-item.result.area domain
+    (found_inside domain strips items c.args.side c.args.t c.requires.canonical c.requires.listed choice c.loop-u.u-index c.u-item.result (omega arith) c.u-item.is)
+    c.requires.region
 
 pub push_step-requires-clause-separate : goal.push_step-requires-clause-separate
 push_step-requires-clause-separate g c =
     let domain = g.P.Plane.region c.args.plane.now in
     let strips = g.P.Plane.strips c.args.plane.now in
     let items = c.as_slice-u-items.result.now in
-    let side = c.args.side in
-    let t = c.args.t in
-    let u = c.u-item.result in
-    let choice : IsChoice strips (λ s. IsBeside side t.area s.area) items = subst (λ (ss : List Strip). IsChoice strips (λ s. IsBeside side t.area s.area) ss) (sym c.as_slice-u-items.ensures) c.in_ok-found.ensures in
-    let here : Contains items u = subst (Contains items) (sym c.u-item.is) (Contains-get_or items c.loop-u.u-index u (omega arith)) in
-    subst (λ (r : Rect). ShareNoPoint r u.area) c.requires.same
-    (beside_apart domain strips side t u c.requires.canonical c.requires.listed (choice.listed u here) (choice.wanted u here))
+    let choice = subst (λ (ss : List Strip). IsChoice strips (λ s. IsBeside c.args.side c.args.t.area s.area) ss) (sym c.as_slice-u-items.ensures) c.in_ok-found.ensures in
+    found_apart domain strips items c.args.side c.args.t c.requires.canonical c.requires.listed choice c.loop-u.u-index c.u-item.result (omega arith) c.u-item.is c.args.d.from.strip c.requires.same
 
 pub loop-u-preserved : goal.loop-u-preserved
 loop-u-preserved g c =

@@ -1,5 +1,4 @@
 use Rattle.std.proofs.lemmas.Result.{on_ok_weaker}
-use Rattle.route_law.specs.Moves.{arrival_of}
 use Rattle.strip_moves.specs.Ways.{IsThroughDoor}
 use Rattle.strip_moves.proofs.Gains.{gains_one}
 use Rattle.strip_moves.proofs.Ways.{one_through}
