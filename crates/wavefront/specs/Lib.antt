@@ -1,0 +1,3 @@
+pub mod PushOrder
+pub mod Reached
+pub mod Waiting
