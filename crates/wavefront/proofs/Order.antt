@@ -1,5 +1,5 @@
 -- Where `put_in` puts a front, and what stays true of each.
-use Rattle.std.proofs.Common.{ℕ, ◌≡◌, ◌+◌, ◌≤◌, ◌<◌, refl, ap, ◌∙◌, Bool, true, false, nat_lt, suc, List, [], ◌∷◌, ◌++◌, length, map, arith, add-one}
+use Rattle.std.proofs.Common.{◌≡◌, ◌≤◌, refl, ap, ◌∙◌, Bool, true, false, nat_lt, suc, List, [], ◌∷◌, ◌++◌, length}
 use Rattle.std.specs.Prelude.{All}
 use Rattle.std.proofs.lemmas.Bool.{ltb-false}
 use Rattle.std.proofs.lemmas.List.{length-map}

@@ -8,8 +8,8 @@ use Rattle.std.proofs.lemmas.Cmp.{ranked}
 use Rattle.std.proofs.lemmas.List.{map-append}
 use Rattle.std.proofs.lemmas.List.Elements.{All-nil, All-cons, All-head, All-tail, All-map}
 use Rattle.wavefront.specs.Waiting.{Pair, IsPopped}
-use Rattle.wavefront.specs.PushOrder.{Numbered, put_in, in_push_order, pair_of, pairs_of}
-use Rattle.wavefront.proofs.Order.{IsPutIn, find_put, all_in_order}
+use Rattle.wavefront.specs.PushOrder.{Numbered, in_push_order, pair_of, pairs_of}
+use Rattle.wavefront.proofs.Order.{find_put, all_in_order}
 
 -- the order of the map: by key, and by the number of the push where the keys are equal
 abbrev pub by_key_and_push : ℕ × ℕ → ℕ × ℕ → Ordering

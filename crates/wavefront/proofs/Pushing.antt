@@ -1,6 +1,5 @@
 -- A new entry of the map comes last in the order of the pushes.
-use Rattle.std.proofs.Common.{ℕ, ◌≡◌, ◌+◌, ◌≤◌, ◌<◌, refl, ap, ◌∙◌, Bool, true, false, nat_lt, List, [], ◌∷◌, ◌++◌, map, arith}
-use Rattle.std.specs.Prelude.{All}
+use Rattle.std.proofs.Common.{ℕ, ◌≡◌, ◌+◌, ◌<◌, refl, ap, ◌∙◌, Bool, true, false, nat_lt, List, [], ◌∷◌, ◌++◌, map, arith}
 use Rattle.std.specs.declared.cmp.Ordering.{Ordering}
 use Rattle.std.specs.declared.cmp.Ordering.TheVariants.{Less, Equal, Greater}
 use Rattle.std.specs.Ordering.{MatchOrdering, match_ordering, nat_cmp, ordering_then}
@@ -10,7 +9,6 @@ use Rattle.std.proofs.lemmas.Cmp.{ranked}
 use Rattle.std.proofs.lemmas.List.{map-append}
 use Rattle.std.proofs.lemmas.List.Elements.{All-cons, All-head, All-tail, All-weaker}
 use Rattle.route_law.specs.declared.certs.Entry.{Entry}
-use Rattle.wavefront.specs.Waiting.{Pair}
 use Rattle.wavefront.specs.PushOrder.{Numbered, put_in, in_push_order, pair_of, pairs_of, AreNumberedBelow}
 use Rattle.wavefront.proofs.Order.{all_in_order}
 use Rattle.wavefront.proofs.Popping.{by_key_and_push}

@@ -6,6 +6,8 @@
 
 mod queues;
 mod tables;
+#[cfg(test)]
+mod tests;
 
 pub use queues::Queue;
 pub use tables::Table;

@@ -1,5 +1,5 @@
-use Rattle.std.proofs.Common.{◌≡◌}
+use Rattle.wavefront.proofs.Corners.{same_by_test}
 use Rattle.wavefront.proofs.tables.is_same.Goals as goal
 
 pub returns : goal.returns
-returns c = let h = c.eq.ensures in ?
+returns c = same_by_test c.args.a c.args.b c.eq.result c.eq.ensures

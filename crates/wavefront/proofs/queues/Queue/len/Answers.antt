@@ -1,4 +1,4 @@
-use Rattle.std.proofs.Common.{◌≡◌, ℕ, length, sym, ap, ◌∙◌}
+use Rattle.std.proofs.Common.{sym, ◌∙◌}
 use Rattle.wavefront.proofs.Order.{length_pairs}
 use Rattle.wavefront.proofs.queues.Queue.len.Goals as goal
 

@@ -1,4 +1,3 @@
-use Rattle.std.proofs.Common.{ℕ, ◌≡◌, ◌<◌, List, ◌∷◌, subst}
 use Rattle.wavefront.proofs.Pushing.{pushed, numbered_more}
 use Rattle.wavefront.proofs.queues.Queue.push.Goals as goal
 
