@@ -1,1 +1,3 @@
-
+pub mod Cheapest
+pub mod GoalsAt
+pub mod Numbered

@@ -1,11 +1,22 @@
 -- Nodes of target boxes to which entries come within their strips, and the cheapest of them.
 use Rattle.std.specs.Prelude.{ℕ, ◌≡◌, ◌+◌, ◌≤◌, nat_lt, cond, List, Contains, Option, Some, None, slice_get}
 use Rattle.geo_rect.specs.declared.ids.Spot.{Spot}
+use Rattle.geo_rect.specs.declared.shapes.Rect.{Rect}
 use Rattle.geo_rect.specs.Distance.{IsAway}
 use Rattle.geo_rect.specs.Plane.{HasPoint}
 use Rattle.board_model.specs.Shapes.{place_of}
 use Rattle.route_law.specs.declared.certs.Entry.{Entry}
 use Rattle.tile_search.specs.declared.goals.Goal.{Goal}
+
+-- the goal is a node of this part of the strip of the entry of number n, and costs what the entry does and
+-- the way there from its front
+pub record IsGoalIn (part : Rect) (n : ℕ) (e : Entry) (goal : Goal) : Type 0 where
+  pub numbered : goal.entry ≡ n
+  pub same_layer : goal.end.layer ≡ e.layer
+  pub in_part : HasPoint part (place_of goal.end)
+  pub way : ℕ
+  pub away : IsAway e.front (place_of goal.end) way
+  pub sum : goal.cost ≡ e.cost + way
 
 -- the goal is a node of this box, in the strip of the entry of number n, and costs what the entry does
 -- and the way there from its front

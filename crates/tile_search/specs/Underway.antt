@@ -1,5 +1,5 @@
 -- What holds of a search at every moment, and what it does when it settles a front.
-use Rattle.std.specs.Prelude.{ℕ, ◌≡◌, ◌+◌, ◌*◌, ◌^◌, ◌≤◌, ◌⊎◌, List, [], ◌∷◌, ◌++◌, Contains, Option, Some, None, length, slice_get}
+use Rattle.std.specs.Prelude.{ℕ, ◌≡◌, ◌+◌, ◌*◌, ◌^◌, ◌<◌, ◌≤◌, ◌⊎◌, List, [], ◌∷◌, ◌++◌, Contains, Option, Some, None, length, slice_get}
 use Rattle.geo_rect.specs.declared.ids.KindId.{KindId}
 use Rattle.geo_rect.specs.declared.ids.Spot.{Spot}
 use Rattle.route_law.specs.declared.certs.Cert.{Cert}
@@ -44,15 +44,16 @@ pub record IsUnderway (g : Ground) (sources targets : List Spot) (s : Search) : 
   pub edges : (e : Entry) (a : Arrival) → Contains s.table e → IsEdgeMove g (arrival_of e) a → IsMet s.table s.queue.pairs a
   pub vias : (e : Entry) (k : KindId) (a : Arrival) → Contains s.table e → IsViaMove g k (arrival_of e) a → IsMet s.table s.queue.pairs a
   pub best : IsLeastGoal (IsGoalAmong targets s.table) s.best
-  pub pushes : s.queue.pushes ≤ (length sources + length s.table) * 2 ^ 63
+  pub pushes : s.queue.pushes ≤ 2 ^ 126 + length s.table * 2 ^ 63
 
 -- a front that waits is one of the old ones, or a move from the entry of number n
 pub data IsOldOrMove (g : Ground) (old : List Pair) (n : ℕ) (e : Entry) (p : Pair) : Type 0 where
   was_there : Contains old p → IsOldOrMove g old n e p
   is_move : p.key ≡ p.entry.cost → IsMoveFrom g (arrival_of e) n p.entry → IsOldOrMove g old n e p
 
--- one more front is settled: its moves wait beside what waited, and the best goal is still a cheapest one
+-- one more front is settled, for which the table has room: its moves wait beside what waited, and the best goal is still a cheapest one
 pub record IsSettled (g : Ground) (targets : List Spot) (old new : Search) (e : Entry) : Type 0 where
+  pub room : length old.table < 2 ^ 63
   pub table : new.table ≡ old.table ++ e ∷ []
   pub kept : (p : Pair) → Contains old.queue.pairs p → Contains new.queue.pairs p
   pub each : (p : Pair) → Contains new.queue.pairs p → IsOldOrMove g old.queue.pairs (length old.table) e p

@@ -10,7 +10,7 @@ ghost use Rattle.tile_search.specs.Underway.{IsUnderway, IsSettled, cert_of};
 use crate::ends::goal_of;
 use crate::fronts::next_front;
 use crate::goals::{Goal, cheaper};
-use crate::pushes::{push_list, push_starts};
+use crate::pushes::{push_entries, push_starts};
 use board_model::Board;
 use geo_rect::{NetId, NoMemory, Spot};
 use plane_core::Plane;
@@ -68,13 +68,14 @@ impl Search {
         requires net { net.0 < length board.now.parts.net_names }
         requires placed { IsWellPlaced (ground_of board.now.parts planes.now net) e }
         requires cost { e.cost ≤ length self.old.table * 2 ^ 28 }
-        requires pushes { self.old.queue.pushes + 2 ^ 63 ≤ 2 ^ 127 }
+        requires pushes { self.old.queue.pushes ≤ 2 ^ 126 + length self.old.table * 2 ^ 63 }
         ensures { OnOk result (IsSettled (ground_of board.now.parts planes.now net) targets.now self.old self.new e) }
     {
-        let number = self.table.settle(e)?;
+        let number = self.table.entries().len() as u64;
+        self.table.settle(e)?;
         self.best = cheaper(self.best, goal_of(targets, number, e));
         let moves = moves_of(alloc, board, planes, net, number, e)?;
-        push_list(&mut self.queue, &moves)
+        push_entries(&mut self.queue, moves.as_slice())
     }
 
     /// Settles one front after the other, the cheapest first, until no front that waits is of use.
