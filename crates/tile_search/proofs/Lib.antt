@@ -1,3 +1,11 @@
 pub mod Cheapest
+pub mod Costs
 pub mod GoalsAt
+pub mod Lows
 pub mod Numbered
+pub mod OnBoards
+pub mod Popped
+pub mod Pushed
+pub mod Rights
+pub mod Settled
+pub mod Steps
