@@ -8,4 +8,5 @@ pub mod Popped
 pub mod Pushed
 pub mod Rights
 pub mod Settled
+pub mod Settling
 pub mod Steps

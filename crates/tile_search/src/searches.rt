@@ -75,7 +75,8 @@ impl Search {
         self.table.settle(e)?;
         self.best = cheaper(self.best, goal_of(targets, number, e));
         let moves = moves_of(alloc, board, planes, net, number, e)?;
-        push_entries(&mut self.queue, moves.as_slice())
+        push_entries(&mut self.queue, moves.as_slice())?;
+        Ok(())
     }
 
     /// Settles one front after the other, the cheapest first, until no front that waits is of use.
