@@ -1,0 +1,12 @@
+pub mod Cheapest
+pub mod Costs
+pub mod GoalsAt
+pub mod Lows
+pub mod Numbered
+pub mod OnBoards
+pub mod Popped
+pub mod Pushed
+pub mod Rights
+pub mod Settled
+pub mod Settling
+pub mod Steps

@@ -1,0 +1,5 @@
+pub mod Answers
+pub mod Boxes
+pub mod Goals
+pub mod Underway
+pub mod Waits
