@@ -1,16 +1,13 @@
-ghost use Rattle.std.specs.Prelude.{◌↔◌, IsTrue};
-ghost use Rattle.geo_rect.specs.Axis.{HasNumber};
-ghost use Rattle.geo_rect.specs.Plane.{columns, rows, HasPoint};
-ghost use Rattle.board_model.specs.Known.{IsKnown, IsNearZero};
-ghost use Rattle.grow_rules.specs.Frames.{IsInside};
+ghost use Rattle.std.specs.Prelude.{IsTrue};
+ghost use Rattle.geo_rect.specs.Plane.{HasPoint};
+ghost use Rattle.board_model.specs.Known.{IsKnown, IsNearOrigin};
+ghost use Rattle.grow_rules.specs.Frames.{IsBoardPoint};
 ghost use Rattle.plane_set.specs.Standing.{HasPlanes};
 
 use crate::PlaneSet;
 use board_model::{Block, Board, BoardParts, Pin, Rule, Shape, ViaKind};
 use flat_plane::FlatPlane;
-use geo_rect::{
-    ClassId, Interval, KindId, Label, LayerId, List, NetId, NoMemory, Node, Point, Rect, Text,
-};
+use geo_rect::{ClassId, KindId, Label, LayerId, List, NetId, NoMemory, Node, Point, Rect, Text};
 use plane_core::{Plane, Strips};
 use std::alloc::Global;
 use std::process::Abort;
@@ -18,69 +15,50 @@ use std::test::Fail;
 
 const ONE: Label = Label::One(NetId(0));
 
-/// A board on which nothing stands, with neither layers nor nets.
-fn bare(alloc: Global, name: Text, width: i32) -> BoardParts {
-    BoardParts {
-        name,
-        width,
-        height: 20,
-        layers: List::new(alloc),
-        classes: List::new(alloc),
-        rules: List::new(alloc),
-        kind_names: List::new(alloc),
-        kinds: List::new(alloc),
-        pads: List::new(alloc),
-        blocks: List::new(alloc),
-        net_names: List::new(alloc),
-        net_classes: List::new(alloc),
-        pins: List::new(alloc),
+fn names(alloc: Global, texts: &[&str]) -> Result<List<Text>, NoMemory> {
+    let mut list = List::new(alloc);
+    for text in texts {
+        list.push(Text::from_str(alloc, text)?)?;
     }
-}
-
-/// Two layers, one class and one net.
-fn add_layers(alloc: Global, parts: &mut BoardParts) -> Result<(), NoMemory> {
-    let rule = Rule { half: 1, gap: 2 };
-    parts.layers.push(Text::from_str(alloc, "top")?)?;
-    parts.layers.push(Text::from_str(alloc, "bottom")?)?;
-    parts.classes.push(Text::from_str(alloc, "thin")?)?;
-    parts.rules.extend_from_slice(&[rule, rule])?;
-    parts.net_names.push(Text::from_str(alloc, "a")?)?;
-    parts.net_classes.push(ClassId(0))
+    Ok(list)
 }
 
 /// A kind of via from the first layer to the second.
-fn add_kind(alloc: Global, parts: &mut BoardParts) -> Result<(), NoMemory> {
-    parts.kind_names.push(Text::from_str(alloc, "hole")?)?;
-    parts.kinds.push(ViaKind {
+fn kind() -> ViaKind {
+    ViaKind {
         first: LayerId(0),
         last: LayerId(1),
         charge: 5,
-    })?;
-    parts.pads.push(2)
+    }
 }
 
-fn fill(
-    alloc: Global,
-    parts: &mut BoardParts,
-    blocks: &[Block],
-    pins: &[Pin],
-) -> Result<(), NoMemory> {
-    add_layers(alloc, parts)?;
-    add_kind(alloc, parts)?;
-    parts.blocks.extend_from_slice(blocks)?;
-    parts.pins.extend_from_slice(pins)
-}
-
-/// A board of this width, 20 high, with these blockages and pins.
-fn board_with(
-    rt: &impl Abort,
+/// A board of two layers, one kind of via over both, one class and one net.
+fn parts_of(
     alloc: Global,
     width: i32,
+    height: i32,
     blocks: &[Block],
     pins: &[Pin],
-) -> Result<Board, NoMemory> {
-    let mut parts = bare(alloc, Text::from_str(alloc, "small")?, width);
-    fill(alloc, &mut parts, blocks, pins)?;
+) -> Result<BoardParts, NoMemory> {
+    let rule = Rule { half: 1, gap: 2 };
+    Ok(BoardParts {
+        name: Text::from_str(alloc, "small")?,
+        width,
+        height,
+        layers: names(alloc, &["top", "bottom"])?,
+        classes: names(alloc, &["thin"])?,
+        rules: List::from_slice(alloc, &[rule, rule])?,
+        kind_names: names(alloc, &["hole"])?,
+        kinds: List::from_slice(alloc, &[kind()])?,
+        pads: List::from_slice(alloc, &[2])?,
+        blocks: List::from_slice(alloc, blocks)?,
+        net_names: names(alloc, &["a"])?,
+        net_classes: List::from_slice(alloc, &[ClassId(0)])?,
+        pins: List::from_slice(alloc, pins)?,
+    })
+}
+
+fn board_of(rt: &impl Abort, alloc: Global, parts: BoardParts) -> Result<Board, NoMemory> {
     assert!(rt; parts.is_board());
     Board::build(alloc, parts)
 }
@@ -119,8 +97,7 @@ fn shape_of(rt: &impl Abort, board: &Board, area: Rect, is_owned: bool) -> Shape
 {
     assert!(rt; board.layers() > 0);
     assert!(rt; board.nets() > 0);
-    assert!(rt; is_small(area.columns()));
-    assert!(rt; is_small(area.rows()));
+    assert!(rt; is_small(area));
     let layer = LayerId(0);
     if is_owned {
         let owner = Some(NetId(0));
@@ -130,16 +107,34 @@ fn shape_of(rt: &impl Abort, board: &Board, area: Rect, is_owned: bool) -> Shape
     Shape { area, layer, owner }
 }
 
-fn is_small(i: Interval) -> bool
-    ensures { IsTrue result → IsNearZero i }
+fn is_small(area: Rect) -> bool
+    ensures { IsTrue result → IsNearOrigin area }
 {
-    if i.low < 0 {
+    if area.x0 < 0 {
         return false;
     }
-    if i.high > 100 {
+    if area.y0 < 0 {
         return false;
     }
-    true
+    if area.x1 > 100 {
+        return false;
+    }
+    area.y1 <= 100
+}
+
+fn has_point(r: Rect, p: Point) -> bool
+    ensures { IsTrue result → HasPoint r p }
+{
+    if p.x < r.x0 {
+        return false;
+    }
+    if p.x > r.x1 {
+        return false;
+    }
+    if p.y < r.y0 {
+        return false;
+    }
+    p.y <= r.y1
 }
 
 /// The strips of the plane of wires on the first layer.
@@ -161,14 +156,16 @@ fn wire_strips<P: Plane>(
 /// The planes of the board that has the wall and the pins.
 fn built_strips<P: Plane>(rt: &impl Abort, alloc: Global) -> Result<Strips, NoMemory> {
     let pins = [pin(left(), 0), pin(right(), 0)];
-    let board = board_with(rt, alloc, 40, &[block(wall())], &pins)?;
+    let parts = parts_of(alloc, 40, 20, &[block(wall())], &pins)?;
+    let board = board_of(rt, alloc, parts)?;
     let set: PlaneSet<P> = PlaneSet::build(alloc, &board)?;
     wire_strips(rt, alloc, &board, &set)
 }
 
 /// The planes of the bare board with the pins and the wall, one by one in another order.
 fn added_strips<P: Plane>(rt: &impl Abort, alloc: Global) -> Result<Strips, NoMemory> {
-    let board = board_with(rt, alloc, 40, &[], &[])?;
+    let parts = parts_of(alloc, 40, 20, &[], &[])?;
+    let board = board_of(rt, alloc, parts)?;
     let set: PlaneSet<P> = PlaneSet::build(alloc, &board)?;
     let set = set.add(alloc, &board, &shape_of(rt, &board, right(), true))?;
     let set = set.add(alloc, &board, &shape_of(rt, &board, wall(), false))?;
@@ -183,42 +180,6 @@ fn the_order_of_the_shapes_does_not_matter(rt: HostRuntime) -> Result<(), Fail> 
     assert_eq!(rt; built.len(), 16);
     assert_eq!(rt; added.as_slice(), built.as_slice());
     Ok(())
-}
-
-fn has_column(r: Rect, p: Point) -> bool
-    ensures { IsTrue result ↔ HasNumber (columns r) p.x }
-{
-    if p.x < r.x0 {
-        return false;
-    }
-    if p.x > r.x1 {
-        return false;
-    }
-    true
-}
-
-fn has_row(r: Rect, p: Point) -> bool
-    ensures { IsTrue result ↔ HasNumber (rows r) p.y }
-{
-    if p.y < r.y0 {
-        return false;
-    }
-    if p.y > r.y1 {
-        return false;
-    }
-    true
-}
-
-fn has_point(r: Rect, p: Point) -> bool
-    ensures { IsTrue result ↔ HasPoint r p }
-{
-    if !has_column(r, p) {
-        return false;
-    }
-    if !has_row(r, p) {
-        return false;
-    }
-    true
 }
 
 fn label_at<P: Plane>(rt: &impl Abort, plane: &P, at: Point) -> Label {
@@ -247,8 +208,10 @@ fn expect_vias<P: Plane>(
 
 /// A pin on the second layer alone, and a blockage on the first.
 fn check_vias<P: Plane>(rt: &impl Abort, alloc: Global) -> Result<(), NoMemory> {
-    let pins = [pin(Rect::new(10, 5, 10, 15), 1)];
-    let board = board_with(rt, alloc, 20, &[block(Rect::new(18, 0, 20, 20))], &pins)?;
+    let blocks = [block(Rect::new(18, 0, 20, 10))];
+    let pins = [pin(Rect::new(10, 5, 10, 5), 1)];
+    let parts = parts_of(alloc, 20, 10, &blocks, &pins)?;
+    let board = board_of(rt, alloc, parts)?;
     let set: PlaneSet<P> = PlaneSet::build(alloc, &board)?;
     expect_vias(rt, alloc, &board, &set)
 }
@@ -265,8 +228,7 @@ fn may_pass<P: Plane>(rt: &impl Abort, board: &Board, set: &PlaneSet<P>, at: Poi
 {
     assert!(rt; board.nets() > 0);
     assert!(rt; board.layers() > 0);
-    assert!(rt; is_inside(board.width(), at.x));
-    assert!(rt; is_inside(board.height(), at.y));
+    assert!(rt; is_on_board(board, at));
     let node = Node {
         x: at.x,
         y: at.y,
@@ -275,21 +237,25 @@ fn may_pass<P: Plane>(rt: &impl Abort, board: &Board, set: &PlaneSet<P>, at: Poi
     set.passable(board, NetId(0), node)
 }
 
-fn is_inside(size: i32, v: i32) -> bool
-    ensures { IsTrue result → IsInside size v }
+fn is_on_board(board: &Board, p: Point) -> bool
+    ensures { IsTrue result → IsBoardPoint board.now.parts p }
 {
-    if v < 0 {
+    if p.x < 0 {
         return false;
     }
-    if v > size {
+    if p.x > board.width() {
         return false;
     }
-    true
+    if p.y < 0 {
+        return false;
+    }
+    p.y <= board.height()
 }
 
 /// The wall keeps the net off as far as its gap, and no farther.
 fn check_wall<P: Plane>(rt: &impl Abort, alloc: Global) -> Result<(), NoMemory> {
-    let board = board_with(rt, alloc, 40, &[block(wall())], &[])?;
+    let parts = parts_of(alloc, 40, 20, &[block(wall())], &[])?;
+    let board = board_of(rt, alloc, parts)?;
     let set: PlaneSet<P> = PlaneSet::build(alloc, &board)?;
     assert!(rt; may_pass(rt, &board, &set, Point { x: 15, y: 5 }));
     assert!(rt; !may_pass(rt, &board, &set, Point { x: 16, y: 5 }));
