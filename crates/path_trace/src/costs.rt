@@ -1,11 +1,11 @@
 //! What legs cost, in micrometres of wire.
 
-ghost use Rattle.std.specs.Prelude.{◌≡◌, ◌≤◌, ◌<◌, ◌^◌};
+ghost use Rattle.std.specs.Prelude.{◌≡◌, ◌≤◌, ◌^◌};
 ghost use Rattle.geo_rect.specs.declared.ids.NetId.{NetId as Net};
 ghost use Rattle.geo_rect.specs.Distance.{apart};
 ghost use Rattle.geo_rect.specs.Line.{between};
-ghost use Rattle.board_model.specs.Shapes.{place_of, end_of};
-ghost use Rattle.board_model.specs.WellFormed.{IsCoordinate, IsPlace, IsCorner, IsStep, AreSteps};
+ghost use Rattle.board_model.specs.Shapes.{place_of};
+ghost use Rattle.board_model.specs.WellFormed.{IsCoordinate, IsPlace, IsStep, AreSteps};
 ghost use Rattle.plane_set.specs.Standing.{PlaneTable};
 ghost use Rattle.route_law.specs.Connections.{cost_of_leg, cost_of_legs};
 ghost use Rattle.strip_moves.specs.Grounds.{ground_of};
