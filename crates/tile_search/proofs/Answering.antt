@@ -1,20 +1,19 @@
 -- What an answer says, where it is that of a right certificate and a cheapest goal.
-use Rattle.std.proofs.Common.{◌≡◌, ℕ, ◌+◌, ◌↔◌, List, Contains, Option, Some, None, IfSome, IfNone, refl, sym, ◌∙◌, ap, subst}
-use Rattle.std.specs.Prelude.{⊤, slice_get}
+use Rattle.std.proofs.Common.{◌≡◌, ℕ, ◌↔◌, List, Option, Some, None, sym, ◌∙◌, ap, subst}
 use Rattle.geo_rect.specs.declared.ids.Node.{Node}
 use Rattle.geo_rect.specs.declared.ids.Spot.{Spot}
 use Rattle.route_law.specs.declared.certs.Cert.{Cert}
 use Rattle.route_law.specs.declared.certs.Entry.{Entry}
 use Rattle.route_law.specs.Ground.{Ground, IsGround}
 use Rattle.route_law.specs.Right.{IsRight}
-use Rattle.route_law.specs.Walks.{HasNode, HasNoJoiningWalk, IsLeastCost}
+use Rattle.route_law.specs.Walks.{HasNoJoiningWalk, IsLeastCost}
 use Rattle.route_law.proofs.Attained.{bound_is_reached}
 use Rattle.route_law.proofs.Law.{leaves_no_walk}
 use Rattle.tile_search.specs.declared.answers.Found.{Found}
 use Rattle.tile_search.specs.declared.answers.Found.TheVariants.{Path, NoRoute}
 use Rattle.tile_search.specs.declared.goals.Goal.{Goal}
-use Rattle.tile_search.specs.Answers.{IsRightPath, HasRightPath, IsPathEnd, HasPathEnd, HasLeastCost, IsRightRefusal, HasRightRefusal, IsNoRoute, IsPathTo, IsAnswerOf}
-use Rattle.tile_search.specs.Goals.{IsGoalAmong, IsLeastGoal, IsCheapest}
+use Rattle.tile_search.specs.Answers.{HasRightPath, IsPathEnd, HasPathEnd, HasLeastCost, HasRightRefusal, IsNoRoute, IsPathTo, IsAnswerOf}
+use Rattle.tile_search.specs.Goals.{IsGoalAmong, IsLeastGoal}
 use Rattle.tile_search.specs.Underway.{cert_of}
 
 module _ (targets : List Spot) (entries : List Entry) where

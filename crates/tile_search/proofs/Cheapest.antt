@@ -19,13 +19,13 @@ module _ (P Q R : Goal → Type 0) (e : IsEither P Q R) where
   least_first : (m : Goal) → IsCheapest P m → ((x : Goal) → Q x → m.cost ≤ x.cost) → IsCheapest R m
   least_first m p q = record {
     there = e.first m p.there;
-    least = λ x r. elim (e.cases x r) [ | inl h ↦ p.least x h | inr h ↦ q x h ];
+    least = λ x r. elim (e.cases x r) [ inl h ↦ p.least x h | inr h ↦ q x h ];
   }
 
   least_second : (m : Goal) → IsCheapest Q m → ((x : Goal) → P x → m.cost ≤ x.cost) → IsCheapest R m
   least_second m q p = record {
     there = e.second m q.there;
-    least = λ x r. elim (e.cases x r) [ | inl h ↦ p x h | inr h ↦ q.least x h ];
+    least = λ x r. elim (e.cases x r) [ inl h ↦ p x h | inr h ↦ q.least x h ];
   }
 
   least_below : (m n : Goal) → IsCheapest P m → IsCheapest Q n → n.cost < m.cost → IsCheapest R n
@@ -35,7 +35,7 @@ module _ (P Q R : Goal → Type 0) (e : IsEither P Q R) where
   least_above m n p q l = least_first m p (λ x h. let k = q.least x h in omega arith)
 
   pub least_of_either : (a b : Option Goal) → IsLeastGoal P a → IsLeastGoal Q b → IsLeastGoal R (lesser_of a b)
-  least_of_either None None p q = λ x r. elim (e.cases x r) [ | inl h ↦ p x h | inr h ↦ q x h ]
+  least_of_either None None p q = λ x r. elim (e.cases x r) [ inl h ↦ p x h | inr h ↦ q x h ]
   least_of_either None (Some n) p q = least_second n q (λ x h. absurd (p x h))
   least_of_either (Some m) None p q = least_first m p (λ x h. absurd (q x h))
   least_of_either (Some m) (Some n) p q =

@@ -26,7 +26,9 @@ pub enum Found {
         cert: Cert,
     },
     /// No walk leads from a source box to a target box.
-    NoRoute { cert: Cert },
+    NoRoute {
+        cert: Cert,
+    },
 }
 
 /// The cheapest walk of the net from a source box to a target box, with a certificate that none is

@@ -3,7 +3,6 @@ use Rattle.std.proofs.lemmas.Result.{IfOk-weaker}
 use Rattle.route_law.specs.Ground.{Ground}
 use Rattle.route_law.specs.Walks.{HasNoJoiningWalk}
 use Rattle.strip_moves.specs.Grounds.{ground_of}
-use Rattle.tile_search.specs.declared.answers.Found.{Found}
 use Rattle.tile_search.specs.Answers.{IsAnswerOf, HasRightPath, HasPathEnd, HasLeastCost, HasRightRefusal, IsNoRoute}
 use Rattle.tile_search.proofs.Answering.{right_path, path_end, least_cost, right_refusal, none_exactly}
 use Rattle.tile_search.proofs.OnBoards.{the_ground}
