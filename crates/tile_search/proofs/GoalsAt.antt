@@ -1,5 +1,5 @@
 -- The goals to which an entry comes, box by box, and those of entry after entry.
-use Rattle.std.proofs.Common.{◌≡◌, ◌≢◌, ℕ, ◌+◌, ◌<◌, ◌≤◌, ◌⊎◌, inl, inr, List, [], ◌∷◌, ◌++◌, Contains, Some, length, get_or, take, refl, sym, ◌∙◌, ap, subst, arith}
+use Rattle.std.proofs.Common.{◌≡◌, ◌≢◌, ℕ, ◌+◌, ◌<◌, inl, inr, List, [], ◌∷◌, ◌++◌, Some, length, get_or, take, refl, sym, ◌∙◌, ap, subst, arith}
 use Rattle.std.specs.Prelude.{slice_get}
 use Rattle.std.proofs.lemmas.List.{take_more}
 use Rattle.std.proofs.lemmas.List.Elements.{Contains-push, Contains-push_cases, Contains-append_left}
@@ -7,14 +7,14 @@ use Rattle.geo_rect.specs.declared.ids.LayerId.{LayerId}
 use Rattle.geo_rect.specs.declared.ids.Node.{Node}
 use Rattle.geo_rect.specs.declared.ids.Spot.{Spot}
 use Rattle.geo_rect.specs.declared.shapes.Rect.{Rect}
-use Rattle.geo_rect.specs.Distance.{apart, IsDistance}
+use Rattle.geo_rect.specs.Distance.{IsDistance}
 use Rattle.geo_rect.specs.Images.{IsClamped}
 use Rattle.geo_rect.specs.Plane.{HasPoint, IsMeet, ShareNoPoint}
 use Rattle.geo_rect.proofs.Clamps.{clamped_level, clamped_point}
 use Rattle.board_model.specs.Shapes.{place_of}
 use Rattle.route_law.specs.declared.certs.Entry.{Entry}
 use Rattle.tile_search.specs.declared.goals.Goal.{Goal}
-use Rattle.tile_search.specs.Goals.{IsGoalIn, IsGoalAt, IsGoalOf, IsGoalAmong, IsCheapest, IsLeastGoal}
+use Rattle.tile_search.specs.Goals.{IsGoalIn, IsGoalAt, IsGoalOf, IsGoalAmong, IsCheapest}
 use Rattle.tile_search.proofs.Cheapest.{IsEither, cheapest_as}
 use Rattle.tile_search.proofs.Numbered.{numbered_kept, numbered_last, numbered_cases}
 

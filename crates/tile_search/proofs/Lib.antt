@@ -1,3 +1,4 @@
+pub mod Answering
 pub mod Cheapest
 pub mod Costs
 pub mod GoalsAt

@@ -1,7 +1,6 @@
 -- What lies on the board has coordinates that are not large.
-use Rattle.std.proofs.Common.{◌≡◌, ◌<◌, length, arith}
+use Rattle.std.proofs.Common.{◌<◌, length, arith}
 use Rattle.std.proofs.lemmas.Int.{ints}
-use Rattle.geo_rect.specs.declared.ids.LayerId.{LayerId}
 use Rattle.geo_rect.specs.declared.ids.NetId.{NetId}
 use Rattle.geo_rect.specs.declared.shapes.Point.{Point}
 use Rattle.geo_rect.specs.declared.shapes.Rect.{Rect}
@@ -11,7 +10,7 @@ use Rattle.board_model.specs.declared.parts.BoardParts.{BoardParts}
 use Rattle.board_model.specs.Rules.{IsBoard}
 use Rattle.plane_set.specs.Standing.{PlaneTable, HasPlanes}
 use Rattle.route_law.specs.declared.certs.Entry.{Entry}
-use Rattle.route_law.specs.Ground.{IsGround, IsWireStrip}
+use Rattle.route_law.specs.Ground.{IsGround}
 use Rattle.route_law.specs.Right.{IsWellPlaced}
 use Rattle.strip_moves.specs.Grounds.{board_area, ground_of}
 use Rattle.strip_moves.proofs.Grounds.{is_ground, wire_inside}

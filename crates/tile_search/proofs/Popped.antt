@@ -1,5 +1,5 @@
 -- What a queue has left after pops.
-use Rattle.std.proofs.Common.{◌≡◌, ℕ, ◌+◌, ◌<◌, ◌≤◌, ◌⊎◌, inl, inr, List, [], ◌∷◌, ◌++◌, All, Contains, Option, Some, None, length, refl, sym, subst, arith}
+use Rattle.std.proofs.Common.{◌≡◌, ℕ, ◌<◌, ◌≤◌, ◌⊎◌, inl, inr, List, [], ◌∷◌, ◌++◌, All, Contains, Option, Some, None, length, refl, sym, subst, arith}
 use Rattle.std.proofs.lemmas.List.{length-append}
 use Rattle.std.proofs.lemmas.List.Elements.{All-contains, All-weaker, All-contains_itself, Contains-append_left, Contains-append_right, Contains-append_cases}
 use Rattle.plane_core.proofs.Members.{has_head, has_tail, has_cases, has_none}
@@ -8,7 +8,7 @@ use Rattle.route_law.specs.Covers.{IsReachedBefore}
 use Rattle.route_law.specs.Moves.{arrival_of}
 use Rattle.wavefront.specs.Waiting.{Pair, IsPopped}
 use Rattle.tile_search.specs.declared.goals.Goal.{Goal}
-use Rattle.tile_search.specs.Waits.{HasBoundedFront, IsLate, IsNeedless, AreNeedless, IsLeft, IsThinned, IsNext}
+use Rattle.tile_search.specs.Waits.{HasBoundedFront, IsLate, AreNeedless, IsThinned, IsNext}
 
 module _ (old : List Pair) (p : Pair) (new : List Pair) (h : IsPopped old p new) where
   parts_taken : Contains (h.before ++ p ∷ h.after) p

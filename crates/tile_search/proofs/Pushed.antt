@@ -10,7 +10,7 @@ use Rattle.route_law.specs.declared.certs.Entry.{Entry}
 use Rattle.route_law.specs.declared.certs.Origin.{Origin}
 use Rattle.route_law.specs.declared.certs.Origin.TheVariants.{Source}
 use Rattle.route_law.specs.Ground.{Ground}
-use Rattle.route_law.specs.Moves.{Arrival, arrival_of}
+use Rattle.route_law.specs.Moves.{Arrival}
 use Rattle.route_law.specs.Right.{IsStart}
 use Rattle.strip_moves.specs.Listed.{HasArrival, IsStartFrom}
 use Rattle.wavefront.specs.Waiting.{Pair}

@@ -1,16 +1,14 @@
 -- Where no front that waits is of use, the settled fronts and the best goal make a right certificate.
-use Rattle.std.proofs.Common.{◌≡◌, ℕ, ◌+◌, ◌<◌, ◌≤◌, ◌⊎◌, inl, inr, List, Contains, Option, Some, None, IsSomeAnd, length, refl, sym, subst, arith}
-use Rattle.std.specs.Prelude.{slice_get}
+use Rattle.std.proofs.Common.{◌≡◌, ℕ, ◌+◌, ◌<◌, ◌≤◌, inl, inr, List, Contains, Option, Some, None, IsSomeAnd, length, refl, subst, arith}
 use Rattle.geo_rect.specs.declared.ids.Node.{Node}
 use Rattle.geo_rect.specs.declared.ids.Spot.{Spot}
 use Rattle.geo_rect.specs.declared.shapes.Point.{Point}
-use Rattle.geo_rect.specs.Distance.{apart, IsAway, IsDistance}
-use Rattle.geo_rect.specs.Plane.{HasPoint, IsMeet}
+use Rattle.geo_rect.specs.Distance.{apart, IsAway}
+use Rattle.geo_rect.specs.Plane.{HasPoint}
 use Rattle.geo_rect.proofs.Nearest.{find_away}
 use Rattle.board_model.specs.Shapes.{place_of}
-use Rattle.route_law.specs.declared.certs.Cert.{Cert}
 use Rattle.route_law.specs.declared.certs.Entry.{Entry}
-use Rattle.route_law.specs.Covers.{IsReachedBefore, IsTooLate, IsCovered}
+use Rattle.route_law.specs.Covers.{IsTooLate, IsCovered}
 use Rattle.route_law.specs.Ground.{Ground}
 use Rattle.route_law.specs.Moves.{Arrival, arrival_of}
 use Rattle.route_law.specs.Right.{IsEnd, IsLeastEnd, HasNoEnd, IsBoundOf, IsRight}
@@ -18,7 +16,7 @@ use Rattle.route_law.proofs.Doors.{find_meet}
 use Rattle.wavefront.specs.Waiting.{Pair}
 use Rattle.tile_search.specs.declared.goals.Goal.{Goal}
 use Rattle.tile_search.specs.declared.searches.Search.{Search}
-use Rattle.tile_search.specs.Goals.{IsGoalAt, IsGoalOf, IsGoalAmong, IsCheapest, IsLeastGoal}
+use Rattle.tile_search.specs.Goals.{IsGoalAmong, IsCheapest, IsLeastGoal}
 use Rattle.tile_search.specs.Underway.{IsWaiting, IsMet, IsUnderway, bound_of, cert_of}
 use Rattle.tile_search.specs.Waits.{IsLate, IsNeedless, AreNeedless}
 use Rattle.tile_search.proofs.Lows.{find_low}

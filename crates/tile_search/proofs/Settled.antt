@@ -1,7 +1,7 @@
 -- What the moves of a settled front are to a search: they wait, in strips that the net may pass.
-use Rattle.std.proofs.Common.{◌≡◌, ℕ, ◌+◌, ◌<◌, ◌≤◌, ◌⊎◌, inl, inr, List, [], ◌∷◌, ◌++◌, All, Contains, Some, length, refl, sym, subst, arith}
+use Rattle.std.proofs.Common.{◌≡◌, ℕ, ◌≤◌, ◌⊎◌, inl, inr, List, [], ◌∷◌, ◌++◌, Contains, Some, length, refl, sym, subst, arith}
 use Rattle.std.specs.Prelude.{slice_get}
-use Rattle.std.proofs.lemmas.List.Elements.{Contains-push, Contains-push_cases, Contains-append_left}
+use Rattle.std.proofs.lemmas.List.Elements.{Contains-push, Contains-append_left}
 use Rattle.geo_rect.specs.declared.ids.KindId.{KindId}
 use Rattle.geo_rect.specs.declared.ids.Spot.{Spot}
 use Rattle.geo_rect.specs.declared.shapes.Rect.{Rect}
@@ -16,12 +16,12 @@ use Rattle.route_law.specs.Ground.{Ground}
 use Rattle.route_law.specs.Moves.{Arrival, arrival_of, IsEdgeMove, IsViaMove}
 use Rattle.route_law.specs.Covers.{IsReachedBefore}
 use Rattle.route_law.specs.Right.{IsStart, IsWellPlaced, IsFrom, IsFromEntry}
-use Rattle.strip_moves.specs.Listed.{IsStartFrom, IsMoveFrom}
+use Rattle.strip_moves.specs.Listed.{IsMoveFrom}
 use Rattle.strip_moves.specs.Listed.IsMoveFrom.{by_edge, by_via}
 use Rattle.wavefront.specs.Waiting.{Pair}
 use Rattle.tile_search.specs.Underway.{IsWaiting, IsOldOrMove, IsMet}
 use Rattle.tile_search.specs.Underway.IsOldOrMove.{was_there, is_move}
-use Rattle.tile_search.specs.Waits.{Waits, IsStartPair, IsLeft}
+use Rattle.tile_search.specs.Waits.{IsStartPair, IsLeft}
 use Rattle.tile_search.proofs.Numbered.{one_more, numbered_kept, numbered_last, numbered_cases}
 
 -- a front reaches itself at once

@@ -1,6 +1,7 @@
 -- A search stays one when a front is taken out and settled.
-use Rattle.std.proofs.Common.{◌≡◌, ℕ, ◌+◌, ◌*◌, ◌^◌, ◌<◌, ◌≤◌, ◌⊎◌, inl, inr, List, [], ◌∷◌, ◌++◌, All, Contains, None, Some, length, refl, sym, subst, arith}
+use Rattle.std.proofs.Common.{◌≡◌, ℕ, ◌+◌, ◌*◌, ◌^◌, ◌<◌, ◌≤◌, inl, inr, List, [], ◌∷◌, ◌++◌, All, Contains, None, Some, length, sym, subst, arith}
 use Rattle.std.specs.Prelude.{slice_get}
+use Rattle.std.proofs.lemmas.Option.{slice_get_within}
 use Rattle.std.proofs.lemmas.List.Elements.{All-weaker, All-contains_itself, Contains-push_cases}
 use Rattle.geo_rect.specs.declared.ids.KindId.{KindId}
 use Rattle.geo_rect.specs.declared.ids.NetId.{NetId}
@@ -16,10 +17,8 @@ use Rattle.route_law.specs.Right.{IsStart, IsWellPlaced, IsFrom}
 use Rattle.strip_moves.specs.Grounds.{ground_of}
 use Rattle.wavefront.specs.Waiting.{Pair, Waiting}
 use Rattle.tile_search.specs.declared.searches.Search.{Search}
-use Rattle.tile_search.specs.Goals.{IsLeastGoal, IsGoalAmong}
-use Rattle.tile_search.specs.Underway.{IsWaiting, IsOldOrMove, IsMet, IsUnderway, IsSettled}
-use Rattle.tile_search.specs.Underway.IsOldOrMove.{was_there, is_move}
-use Rattle.tile_search.specs.Waits.{Waits, IsStartPair, HasStarts, HasBoundedFront, IsNext, IsLeft}
+use Rattle.tile_search.specs.Underway.{IsWaiting, IsMet, IsUnderway, IsSettled}
+use Rattle.tile_search.specs.Waits.{HasStarts, HasBoundedFront, IsNext}
 use Rattle.tile_search.proofs.Costs.{waiting_cost}
 use Rattle.tile_search.proofs.Numbered.{one_more, listed_numbered, numbered_listed}
 use Rattle.tile_search.proofs.OnBoards.{front_bounded}
@@ -33,7 +32,7 @@ module _ (g : Ground) (sources targets : List Spot) where
   first_met : (pairs : List Pair) → HasStarts g sources (length sources) pairs → (box : Spot) (a : Arrival) → Contains sources box → IsStart g box a → IsMet [] pairs a
   first_met pairs h box a c s =
       let n = listed_numbered sources box c in
-      inr (h.all n.0 box a (let l = c.1 in l) n.1 s)
+      inr (h.all n.0 box a (slice_get_within sources n.0 box n.1) n.1 s)
 
   -- at first the starts wait
   pub underway_first : (q : Waiting) → HasStarts g sources (length sources) q.pairs → q.pushes ≤ 2 ^ 126 → IsUnderway g sources targets (record { queue = q; table = []; best = None })

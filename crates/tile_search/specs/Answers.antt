@@ -1,5 +1,5 @@
 -- What the answer of a search says.
-use Rattle.std.specs.Prelude.{ℕ, ◌≡◌, ◌+◌, List, Contains, Option, Some, None, ⊤, slice_get}
+use Rattle.std.specs.Prelude.{ℕ, ◌≡◌, ◌+◌, List, Option, Some, None, ⊤, slice_get}
 use Rattle.geo_rect.specs.declared.ids.Node.{Node}
 use Rattle.geo_rect.specs.declared.ids.Spot.{Spot}
 use Rattle.geo_rect.specs.Distance.{IsAway}

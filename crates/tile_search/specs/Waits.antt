@@ -3,7 +3,6 @@ use Rattle.std.specs.Prelude.{ℕ, ◌≡◌, ◌≤◌, ◌<◌, ◌⊎◌, Lis
 use Rattle.geo_rect.specs.declared.ids.Spot.{Spot}
 use Rattle.geo_rect.specs.Plane.{IsBounded}
 use Rattle.route_law.specs.declared.certs.Entry.{Entry}
-use Rattle.route_law.specs.declared.certs.Origin.TheVariants.{Source}
 use Rattle.route_law.specs.Ground.{Ground}
 use Rattle.route_law.specs.Moves.{Arrival, arrival_of}
 use Rattle.route_law.specs.Covers.{IsReachedBefore}

@@ -11,5 +11,7 @@ mod fronts;
 mod goals;
 mod pushes;
 mod searches;
+#[cfg(test)]
+mod tests;
 
 pub use answers::{Found, search};

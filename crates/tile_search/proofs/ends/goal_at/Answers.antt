@@ -1,5 +1,4 @@
 use Rattle.std.proofs.Common.{ap}
-use Rattle.geo_rect.specs.declared.ids.LayerId.{LayerId}
 use Rattle.geo_rect.proofs.Parts.{lies_in_from, bounded_within}
 use Rattle.board_model.specs.Lookup.{layer_at}
 use Rattle.tile_search.proofs.GoalsAt.{other_layer, no_common, cheapest_at}

@@ -1,5 +1,4 @@
 use Rattle.std.proofs.Common.{ℕ, ◌+◌, sym, subst}
-use Rattle.tile_search.specs.declared.goals.Goal.{Goal}
 use Rattle.tile_search.specs.Goals.{IsGoalIn, IsCheapest}
 use Rattle.tile_search.proofs.GoalsAt.{nearest_goal}
 use Rattle.tile_search.proofs.ends.goal_in.Goals as goal

@@ -1,6 +1,6 @@
 use Rattle.std.proofs.Common.{rules}
 use Rattle.std.proofs.lemmas.List.Elements.{All-contains}
-use Rattle.wavefront.specs.Waiting.{Pair, IsPopped}
+use Rattle.wavefront.specs.Waiting.{Pair}
 use Rattle.tile_search.specs.Waits.{HasBoundedFront}
 use Rattle.tile_search.proofs.Popped.{popped_taken, thinned_more, next_of, needless_late}
 use Rattle.tile_search.proofs.fronts.next_front.Goals as goal
