@@ -1,5 +1,4 @@
 pub mod Bounds
-pub mod Boxes
 pub mod Fronts
 pub mod Passages
 pub mod Searches

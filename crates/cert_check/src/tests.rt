@@ -3,7 +3,7 @@ ghost use Rattle.std.specs.Option.{option_copied};
 ghost use Rattle.board_model.specs.Shapes.{place_of};
 ghost use Rattle.board_model.specs.WellFormed.{IsCoordinate, IsPlace};
 ghost use Rattle.walk_check.specs.Corners.{HasPlaces};
-ghost use Rattle.cert_check.specs.Boxes.{IsBoardBox};
+ghost use Rattle.strip_moves.specs.Boxes.{IsBoardBox};
 
 use crate::{Verdict, Why, check};
 use board_model::{Block, Board, BoardParts, Conn, Leg, Pin, Rule};

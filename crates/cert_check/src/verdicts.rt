@@ -4,7 +4,7 @@ ghost use Rattle.plane_set.specs.Standing.{HasPlanes};
 ghost use Rattle.route_law.specs.Walks.{HasNoJoiningWalk};
 ghost use Rattle.strip_moves.specs.Grounds.{ground_of};
 ghost use Rattle.walk_check.specs.Corners.{HasPlaces};
-ghost use Rattle.cert_check.specs.Boxes.{IsBoardBox};
+ghost use Rattle.strip_moves.specs.Boxes.{IsBoardBox};
 ghost use Rattle.cert_check.specs.Verdicts.{IsVerdict, IfYes, IsLeastConnection};
 
 use crate::bounds::is_bound;

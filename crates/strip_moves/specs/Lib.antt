@@ -1,3 +1,4 @@
+pub mod Boxes
 pub mod Departures
 pub mod Gains
 pub mod Grounds

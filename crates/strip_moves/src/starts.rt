@@ -1,10 +1,10 @@
 ghost use Rattle.std.specs.Prelude.{◌<◌, length, All, IfOk, OnOk};
 ghost use Rattle.geo_rect.specs.Plane.{LiesIn};
-ghost use Rattle.board_model.specs.Rules.{IsOnBoard};
 ghost use Rattle.plane_set.specs.Standing.{HasPlanes};
 ghost use Rattle.route_law.specs.declared.certs.Origin.TheVariants.{Source};
 ghost use Rattle.route_law.specs.Moves.{Arrival};
 ghost use Rattle.route_law.specs.Right.{IsStart};
+ghost use Rattle.strip_moves.specs.Boxes.{IsBoardBox};
 ghost use Rattle.strip_moves.specs.Gains.{Gains};
 ghost use Rattle.strip_moves.specs.Grounds.{ground_of};
 ghost use Rattle.strip_moves.specs.Listed.{HasArrival, IsStartFrom};
@@ -31,8 +31,7 @@ pub fn starts_of<P: Plane>(
 ) -> Result<List<Entry>, NoMemory>
     requires planes { HasPlanes board.now.parts planes.now }
     requires net { net.0 < length board.now.parts.net_names }
-    requires layer { source.layer.0 < length board.now.parts.layers }
-    requires area { IsOnBoard board.now.parts.width board.now.parts.height source.area }
+    requires source { IsBoardBox board.now.parts source }
     ensures each { IfOk result (λ entries. All (IsStartFrom (ground_of board.now.parts planes.now net) source number) entries) }
     ensures all { IfOk result (λ entries. (a : Arrival) → IsStart (ground_of board.now.parts planes.now net) source a
         → HasArrival entries (Source number) a) }

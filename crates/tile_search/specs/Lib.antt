@@ -1,5 +1,4 @@
 pub mod Answers
-pub mod Boxes
 pub mod Goals
 pub mod Underway
 pub mod Waits

@@ -4,7 +4,7 @@ ghost use Rattle.plane_set.specs.Standing.{HasPlanes};
 ghost use Rattle.route_law.specs.Walks.{HasNoJoiningWalk};
 ghost use Rattle.strip_moves.specs.Grounds.{ground_of};
 ghost use Rattle.tile_search.specs.Answers.{IsAnswerOf, HasRightPath, HasPathEnd, HasRightRefusal, HasLeastCost, IsNoRoute};
-ghost use Rattle.tile_search.specs.Boxes.{IsBoardBox};
+ghost use Rattle.strip_moves.specs.Boxes.{IsBoardBox};
 
 use crate::searches::Search;
 use board_model::Board;

@@ -2,7 +2,7 @@
 ghost use Rattle.std.specs.Prelude.{◌≡◌, ◌+◌, ◌^◌, ◌<◌, ◌≤◌, [], length, All, OnOk};
 ghost use Rattle.plane_set.specs.Standing.{HasPlanes};
 ghost use Rattle.strip_moves.specs.Grounds.{ground_of};
-ghost use Rattle.tile_search.specs.Boxes.{IsBoardBox};
+ghost use Rattle.strip_moves.specs.Boxes.{IsBoardBox};
 ghost use Rattle.tile_search.specs.Waits.{IsPushed, HasStarts};
 
 use board_model::Board;

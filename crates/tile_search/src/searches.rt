@@ -3,7 +3,7 @@ ghost use Rattle.std.specs.Prelude.{◌≡◌, ◌+◌, ◌*◌, ◌^◌, ◌<�
 ghost use Rattle.plane_set.specs.Standing.{HasPlanes};
 ghost use Rattle.route_law.specs.Right.{IsRight, IsWellPlaced};
 ghost use Rattle.strip_moves.specs.Grounds.{ground_of};
-ghost use Rattle.tile_search.specs.Boxes.{IsBoardBox};
+ghost use Rattle.strip_moves.specs.Boxes.{IsBoardBox};
 ghost use Rattle.tile_search.specs.Goals.{IsLeastGoal, IsGoalAmong};
 ghost use Rattle.tile_search.specs.Underway.{IsUnderway, IsSettled, cert_of};
 

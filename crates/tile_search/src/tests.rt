@@ -1,6 +1,6 @@
 ghost use Rattle.std.specs.Prelude.{◌<◌, length, All, IsTrue};
 ghost use Rattle.plane_set.specs.Standing.{HasPlanes};
-ghost use Rattle.tile_search.specs.Boxes.{IsBoardBox};
+ghost use Rattle.strip_moves.specs.Boxes.{IsBoardBox};
 
 use crate::{Found, search};
 use board_model::{Block, Board, BoardParts, Pin, Rule};

@@ -1,7 +1,7 @@
 use Rattle.std.proofs.Common.{arith}
 use Rattle.std.proofs.lemmas.List.Elements.{All-contains}
 use Rattle.strip_moves.specs.Grounds.{ground_of}
-use Rattle.cert_check.specs.Boxes.{IsBoardBox}
+use Rattle.strip_moves.specs.Boxes.{IsBoardBox}
 use Rattle.cert_check.specs.Stages.{Started}
 use Rattle.cert_check.proofs.Cases.{not_both}
 use Rattle.cert_check.proofs.Numbered.{each_more, each_to_end, first_found, read_listed}
