@@ -1,5 +1,6 @@
 pub mod Answers
 pub mod Boxes
 pub mod Goals
+pub mod Once
 pub mod Underway
 pub mod Waits

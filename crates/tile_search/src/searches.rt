@@ -5,6 +5,7 @@ ghost use Rattle.route_law.specs.Right.{IsRight, IsWellPlaced};
 ghost use Rattle.strip_moves.specs.Grounds.{ground_of};
 ghost use Rattle.tile_search.specs.Boxes.{IsBoardBox};
 ghost use Rattle.tile_search.specs.Goals.{IsLeastGoal, IsGoalAmong};
+ghost use Rattle.tile_search.specs.Once.{AreSettledOnce};
 ghost use Rattle.tile_search.specs.Underway.{IsUnderway, IsSettled, cert_of};
 
 use crate::ends::goal_of;
@@ -95,6 +96,7 @@ impl Search {
         requires underway { IsUnderway (ground_of board.now.parts planes.now net) sources.now targets.now self.old }
         ensures right { OnOk result (IsRight (ground_of board.now.parts planes.now net) sources.now targets.now (cert_of self.new.table self.new.best)) }
         ensures best { OnOk result (IsLeastGoal (IsGoalAmong targets.now self.new.table) self.new.best) }
+        ensures once { OnOk result (AreSettledOnce self.new.table) }
     {
         while let Some(e) = next_front(&mut self.queue, &self.table, self.best) {
             self.settle(alloc, board, planes, net, targets, e)?;
