@@ -80,7 +80,8 @@ impl Search {
         Ok(())
     }
 
-    /// Settles one front after the other, the cheapest first, until no front that waits is of use.
+    /// Settles one front after the other, the cheapest first, until no front that waits is of use. It ends,
+    /// since no front is settled twice and the table has room for fewer than 2^63.
     pub fn run<P: Plane>(
         &mut self,
         alloc: Global,
