@@ -12,8 +12,9 @@ use Rattle.route_law.proofs.Law.{leaves_no_walk}
 use Rattle.tile_search.specs.declared.answers.Found.{Found}
 use Rattle.tile_search.specs.declared.answers.Found.TheVariants.{Path, NoRoute}
 use Rattle.tile_search.specs.declared.goals.Goal.{Goal}
-use Rattle.tile_search.specs.Answers.{HasRightPath, IsPathEnd, HasPathEnd, HasLeastCost, HasRightRefusal, IsNoRoute, IsPathTo, IsAnswerOf}
+use Rattle.tile_search.specs.Answers.{HasRightPath, IsPathEnd, HasPathEnd, HasLeastCost, HasRightRefusal, HasEachFrontOnce, IsNoRoute, IsPathTo, IsAnswerOf}
 use Rattle.tile_search.specs.Goals.{IsGoalAmong, IsLeastGoal}
+use Rattle.tile_search.specs.Once.{AreSettledOnce}
 use Rattle.tile_search.specs.Underway.{cert_of}
 
 module _ (targets : List Spot) (entries : List Entry) where
@@ -45,6 +46,12 @@ module _ (targets : List Spot) (entries : List Entry) where
   path_end None (Path cost entry end cert) a l = absurd a
   path_end (Some goal) (NoRoute cert) a l = absurd a
   path_end (Some goal) (Path cost entry end cert) a l = end_same goal cost entry end cert a (end_of goal l.there)
+
+pub each_once : (entries : List Entry) (best : Option Goal) (found : Found) → IsAnswerOf entries best found → AreSettledOnce entries → HasEachFrontOnce found
+each_once entries None (NoRoute cert) a o = subst AreSettledOnce (sym (ap (λ (x : Cert). x.entries) a)) o
+each_once entries None (Path cost entry end cert) a o = absurd a
+each_once entries (Some goal) (NoRoute cert) a o = absurd a
+each_once entries (Some goal) (Path cost entry end cert) a o = subst AreSettledOnce (sym (ap (λ (x : Cert). x.entries) a.same_cert)) o
 
 module _ (g : Ground) (sources targets : List Spot) (entries : List Entry) where
   pub right_path : (best : Option Goal) (found : Found) → IsAnswerOf entries best found → IsRight g sources targets (cert_of entries best) → HasRightPath g sources targets found

@@ -5,6 +5,7 @@ pub mod GoalsAt
 pub mod Lows
 pub mod Numbered
 pub mod OnBoards
+pub mod Onces
 pub mod Popped
 pub mod Pushed
 pub mod Rights

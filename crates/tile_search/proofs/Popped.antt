@@ -84,12 +84,14 @@ module _ (entries : List Entry) (old mid : List Pair) (t : IsThinned entries old
   }
 
   -- what is popped is the next
-  pub next_of : (key : ℕ) (e : Entry) (new : List Pair) → IsPopped mid (record { key = key; entry = e }) new → IsNext entries old new e
-  next_of key e new h =
+  pub next_of : (key : ℕ) (e : Entry) (new : List Pair) → IsPopped mid (record { key = key; entry = e }) new → (IsReachedBefore entries (arrival_of e) → ⊥) → IsNext entries old new e
+  next_of key e new h u =
       let p : Pair = record { key = key; entry = e } in
       record {
         key = key;
         listed = t.kept p (popped_taken mid p new h);
+        uncovered = u;
+        least = λ q k. popped_least mid p new h q k;
         kept = λ q k. t.kept q (popped_kept mid p new h q k);
         rest = λ q k. elim (t.rest q k) [
           | inl m ↦ elim (popped_cases mid p new h q m) [

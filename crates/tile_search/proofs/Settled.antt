@@ -25,7 +25,7 @@ use Rattle.tile_search.specs.Waits.{IsStartPair, IsLeft}
 use Rattle.tile_search.proofs.Numbered.{one_more, numbered_kept, numbered_last, numbered_cases}
 
 -- a front reaches itself at once
-itself : (f : Rect) → IsReach f f 0
+pub itself : (f : Rect) → IsReach f f 0
 itself f =
     let r = find_reach f f in
     let e : r.0 ≡ 0 = (reach_zero f f r.0 r.1).1 (λ p h. h) in

@@ -17,11 +17,13 @@ use Rattle.route_law.specs.Right.{IsStart, IsWellPlaced, IsFrom}
 use Rattle.strip_moves.specs.Grounds.{ground_of}
 use Rattle.wavefront.specs.Waiting.{Pair, Waiting}
 use Rattle.tile_search.specs.declared.searches.Search.{Search}
+use Rattle.tile_search.specs.Once.{AreSettledOnce}
 use Rattle.tile_search.specs.Underway.{IsWaiting, IsMet, IsUnderway, IsSettled}
 use Rattle.tile_search.specs.Waits.{HasStarts, HasBoundedFront, IsNext}
 use Rattle.tile_search.proofs.Costs.{waiting_cost}
 use Rattle.tile_search.proofs.Numbered.{one_more, listed_numbered, numbered_listed}
 use Rattle.tile_search.proofs.OnBoards.{front_bounded}
+use Rattle.tile_search.proofs.Onces.{none_once, settled_once_more, later_more}
 use Rattle.tile_search.proofs.Settled.{start_waiting, waiting_more, founded_more, met_more}
 
 -- the search with another queue
@@ -44,6 +46,8 @@ module _ (g : Ground) (sources targets : List Spot) where
     edges = λ e a c m. absurd (has_none e c);
     vias = λ e k a c m. absurd (has_none e c);
     best = λ goal i. has_none i.entry (numbered_listed [] goal.entry i.entry i.numbered);
+    once = none_once;
+    later = λ e p c k. absurd (has_none e c);
     pushes = omega (arith, l);
   }
 
@@ -81,6 +85,12 @@ module _ (g : Ground) (sources targets : List Spot) where
           | inr i ↦ inr (settled.vias k a (subst (λ (y : Entry). IsViaMove g k (arrival_of y) a) (sym i) m))
         ]
 
+    no_later : (x : Entry) → Contains s.table x → x.cost ≤ e.cost
+    no_later x c = omega (arith, u.later x (record { key = next.key; entry = e }) c next.listed, next_waiting.key)
+
+    no_less : (p : Pair) → Contains q.pairs p → e.cost ≤ p.key
+    no_less p c = omega (arith, next.least p c, next_waiting.key)
+
     -- the same of the new search, whose table is that
     pub record IsStepped (entries : List Entry) : Type 0 where
       pub placed : (x : Entry) → Contains entries x → IsWellPlaced g x
@@ -89,6 +99,8 @@ module _ (g : Ground) (sources targets : List Spot) where
       pub starts : (box : Spot) (a : Arrival) → Contains sources box → IsStart g box a → IsMet entries new.queue.pairs a
       pub edges : (x : Entry) (a : Arrival) → Contains entries x → IsEdgeMove g (arrival_of x) a → IsMet entries new.queue.pairs a
       pub vias : (x : Entry) (k : KindId) (a : Arrival) → Contains entries x → IsViaMove g k (arrival_of x) a → IsMet entries new.queue.pairs a
+      pub once : AreSettledOnce entries
+      pub later : (x : Entry) (p : Pair) → Contains entries x → Contains new.queue.pairs p → x.cost ≤ p.key
 
     stepped : IsStepped table
     stepped = record {
@@ -98,6 +110,8 @@ module _ (g : Ground) (sources targets : List Spot) where
       starts = λ box a c h. met a (u.starts box a c h);
       edges = edges_more;
       vias = vias_more;
+      once = settled_once_more s.table e no_later u.once next.uncovered;
+      later = λ x p c k. later_more g s.table e s.queue.pairs q.pairs (length s.table) u.later no_later next.kept no_less x p c (settled.each p k);
     }
 
     pub underway_more : q.pushes ≡ s.queue.pushes → IsUnderway g sources targets new
@@ -112,6 +126,8 @@ module _ (g : Ground) (sources targets : List Spot) where
           edges = t.edges;
           vias = t.vias;
           best = settled.best u.best;
+          once = t.once;
+          later = t.later;
           pushes = omega (arith, settled.pushes, u.pushes, same, size);
         }
 

@@ -13,6 +13,7 @@ use Rattle.route_law.specs.Walks.{HasNode, IsLeastCost}
 use Rattle.tile_search.specs.declared.answers.Found.{Found}
 use Rattle.tile_search.specs.declared.answers.Found.TheVariants.{Path, NoRoute}
 use Rattle.tile_search.specs.declared.goals.Goal.{Goal}
+use Rattle.tile_search.specs.Once.{AreSettledOnce}
 use Rattle.tile_search.specs.Underway.{cert_of}
 
 -- the certificate is right, and bounds all walks by this cost
@@ -60,6 +61,11 @@ HasRightRefusal g sources targets (NoRoute cert) = IsRightRefusal g sources targ
 abbrev pub IsNoRoute : Found → Type 0
 IsNoRoute (Path cost entry end cert) = ⊥
 IsNoRoute (NoRoute cert) = ⊤
+
+-- the certificate lists fronts in the order in which they were settled, each once
+abbrev pub HasEachFrontOnce : Found → Type 0
+HasEachFrontOnce (Path cost entry end cert) = AreSettledOnce cert.entries
+HasEachFrontOnce (NoRoute cert) = AreSettledOnce cert.entries
 
 -- the answer is this goal, with this certificate
 pub record IsPathTo (goal : Goal) (certificate : Cert) (cost n : ℕ) (v : Node) (cert : Cert) : Type 0 where

@@ -13,6 +13,7 @@ use Rattle.wavefront.specs.Waiting.{Pair}
 use Rattle.tile_search.specs.declared.goals.Goal.{Goal}
 use Rattle.tile_search.specs.declared.searches.Search.{Search}
 use Rattle.tile_search.specs.Goals.{IsLeastGoal, IsGoalAmong}
+use Rattle.tile_search.specs.Once.{AreSettledOnce}
 use Rattle.tile_search.specs.Waits.{Waits}
 
 -- what the best goal costs
@@ -44,6 +45,8 @@ pub record IsUnderway (g : Ground) (sources targets : List Spot) (s : Search) : 
   pub edges : (e : Entry) (a : Arrival) → Contains s.table e → IsEdgeMove g (arrival_of e) a → IsMet s.table s.queue.pairs a
   pub vias : (e : Entry) (k : KindId) (a : Arrival) → Contains s.table e → IsViaMove g k (arrival_of e) a → IsMet s.table s.queue.pairs a
   pub best : IsLeastGoal (IsGoalAmong targets s.table) s.best
+  pub once : AreSettledOnce s.table
+  pub later : (e : Entry) (p : Pair) → Contains s.table e → Contains s.queue.pairs p → e.cost ≤ p.key
   pub pushes : s.queue.pushes ≤ 2 ^ 126 + length s.table * 2 ^ 63
 
 -- a front that waits is one of the old ones, or a move from the entry of number n

@@ -54,10 +54,13 @@ pub record IsThinned (entries : List Entry) (old new : List Pair) : Type 0 where
   pub kept : (p : Pair) → Contains new p → Contains old p
   pub rest : (p : Pair) → Contains old p → IsLeft entries new p
 
--- the entry is taken out, under some key, and with it some pairs that settled fronts cover, and no others
+-- the entry, which no settled front covers, is taken out under some key, the least of those left, and with
+-- it some pairs that settled fronts cover, and no others
 pub record IsNext (entries : List Entry) (old new : List Pair) (e : Entry) : Type 0 where
   pub key : ℕ
   pub listed : Contains old (record { key = key; entry = e })
+  pub uncovered : IsReachedBefore entries (arrival_of e) → ⊥
+  pub least : (p : Pair) → Contains new p → key ≤ p.key
   pub kept : (p : Pair) → Contains new p → Contains old p
   pub rest : (p : Pair) → Contains old p → (p.entry ≡ e) ⊎ IsLeft entries new p
 

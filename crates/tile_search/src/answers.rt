@@ -3,7 +3,7 @@ ghost use Rattle.std.specs.Prelude.{◌<◌, ◌↔◌, length, All, IfOk};
 ghost use Rattle.plane_set.specs.Standing.{HasPlanes};
 ghost use Rattle.route_law.specs.Walks.{HasNoJoiningWalk};
 ghost use Rattle.strip_moves.specs.Grounds.{ground_of};
-ghost use Rattle.tile_search.specs.Answers.{IsAnswerOf, HasRightPath, HasPathEnd, HasRightRefusal, HasLeastCost, IsNoRoute};
+ghost use Rattle.tile_search.specs.Answers.{IsAnswerOf, HasRightPath, HasPathEnd, HasRightRefusal, HasLeastCost, HasEachFrontOnce, IsNoRoute};
 ghost use Rattle.strip_moves.specs.Boxes.{IsBoardBox};
 
 use crate::searches::Search;
@@ -32,7 +32,7 @@ pub enum Found {
 }
 
 /// The cheapest walk of the net from a source box to a target box, with a certificate that none is
-/// cheaper, or one that there is none. All boxes lie on the board.
+/// cheaper, or one that there is none. The source boxes lie on the board, and there is a target box.
 pub fn search<P: Plane>(
     alloc: Global,
     board: &Board,
@@ -44,7 +44,6 @@ pub fn search<P: Plane>(
     requires planes { HasPlanes board.now.parts planes.now }
     requires net { net.0 < length board.now.parts.net_names }
     requires sources { All (IsBoardBox board.now.parts) sources.now }
-    requires targets { All (IsBoardBox board.now.parts) targets.now }
     requires target { 0 < length targets.now }
     ensures path { IfOk result (HasRightPath (ground_of board.now.parts planes.now net) sources.now targets.now) }
     ensures path_end { IfOk result (HasPathEnd targets.now) }
@@ -52,6 +51,7 @@ pub fn search<P: Plane>(
     ensures none { IfOk result (HasRightRefusal (ground_of board.now.parts planes.now net) sources.now targets.now) }
     ensures none_exactly { IfOk result (λ found. IsNoRoute found
         ↔ HasNoJoiningWalk (ground_of board.now.parts planes.now net) sources.now targets.now) }
+    ensures each_once { IfOk result HasEachFrontOnce }
 {
     let mut searched = Search::start(alloc, board, planes, net, sources, targets)?;
     searched.run(alloc, board, planes, net, sources, targets)?;

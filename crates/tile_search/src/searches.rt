@@ -5,6 +5,7 @@ ghost use Rattle.route_law.specs.Right.{IsRight, IsWellPlaced};
 ghost use Rattle.strip_moves.specs.Grounds.{ground_of};
 ghost use Rattle.strip_moves.specs.Boxes.{IsBoardBox};
 ghost use Rattle.tile_search.specs.Goals.{IsLeastGoal, IsGoalAmong};
+ghost use Rattle.tile_search.specs.Once.{AreSettledOnce};
 ghost use Rattle.tile_search.specs.Underway.{IsUnderway, IsSettled, cert_of};
 
 use crate::ends::goal_of;
@@ -79,7 +80,8 @@ impl Search {
         Ok(())
     }
 
-    /// Settles one front after the other, the cheapest first, until no front that waits is of use.
+    /// Settles one front after the other, the cheapest first, until no front that waits is of use. It ends,
+    /// since no front is settled twice and the table has room for fewer than 2^63.
     pub fn run<P: Plane>(
         &mut self,
         alloc: Global,
@@ -95,6 +97,7 @@ impl Search {
         requires underway { IsUnderway (ground_of board.now.parts planes.now net) sources.now targets.now self.old }
         ensures right { OnOk result (IsRight (ground_of board.now.parts planes.now net) sources.now targets.now (cert_of self.new.table self.new.best)) }
         ensures best { OnOk result (IsLeastGoal (IsGoalAmong targets.now self.new.table) self.new.best) }
+        ensures once { OnOk result (AreSettledOnce self.new.table) }
     {
         while let Some(e) = next_front(&mut self.queue, &self.table, self.best) {
             self.settle(alloc, board, planes, net, targets, e)?;

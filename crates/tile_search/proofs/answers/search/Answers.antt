@@ -3,8 +3,8 @@ use Rattle.std.proofs.lemmas.Result.{IfOk-weaker}
 use Rattle.route_law.specs.Ground.{Ground}
 use Rattle.route_law.specs.Walks.{HasNoJoiningWalk}
 use Rattle.strip_moves.specs.Grounds.{ground_of}
-use Rattle.tile_search.specs.Answers.{IsAnswerOf, HasRightPath, HasPathEnd, HasLeastCost, HasRightRefusal, IsNoRoute}
-use Rattle.tile_search.proofs.Answering.{right_path, path_end, least_cost, right_refusal, none_exactly}
+use Rattle.tile_search.specs.Answers.{IsAnswerOf, HasRightPath, HasPathEnd, HasLeastCost, HasRightRefusal, HasEachFrontOnce, IsNoRoute}
+use Rattle.tile_search.proofs.Answering.{right_path, path_end, least_cost, right_refusal, none_exactly, each_once}
 use Rattle.tile_search.proofs.OnBoards.{the_ground}
 use Rattle.tile_search.proofs.answers.search.Goals as goal
 
@@ -47,4 +47,11 @@ returns-clause-none_exactly g c =
     let s = c.run.new.self in
     IfOk-weaker c.answer_of.result (IsAnswerOf s.table s.best) (λ f. IsNoRoute f ↔ HasNoJoiningWalk ground c.args.sources.now c.args.targets.now)
     (λ f a. none_exactly ground c.args.sources.now c.args.targets.now s.table proper s.best f a c.in_ok-run.ensures.right)
+    c.answer_of.ensures
+
+pub returns-clause-each_once : goal.returns-clause-each_once
+returns-clause-each_once g c =
+    let s = c.run.new.self in
+    IfOk-weaker c.answer_of.result (IsAnswerOf s.table s.best) HasEachFrontOnce
+    (λ f a. each_once s.table s.best f a c.in_ok-run.ensures.once)
     c.answer_of.ensures

@@ -1,4 +1,4 @@
-use Rattle.std.proofs.Common.{rules}
+use Rattle.std.proofs.Common.{◌≡◌, true, rules}
 use Rattle.std.proofs.lemmas.List.Elements.{All-contains}
 use Rattle.wavefront.specs.Waiting.{Pair}
 use Rattle.tile_search.specs.Waits.{HasBoundedFront}
@@ -18,6 +18,7 @@ covered-requires c =
 pub returns-then-not-covered-clause-some : goal.returns-then-not-covered-clause-some
 returns-then-not-covered-clause-some c =
     next_of c.args.table.now c.args.queue.now.pairs c.loop-key.queue.pairs c.loop-key.invariant.thinned c.in-Some.key c.in-Some.e c.pop.new.self.pairs c.in-Some.ensures.some
+    (λ r. let k : c.covered.result ≡ true = c.covered.ensures.1 r in let m = c.if-not-covered.true in cc)
 
 pub loop-key-preserved : goal.loop-key-preserved
 loop-key-preserved c =
