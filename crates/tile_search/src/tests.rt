@@ -1,5 +1,4 @@
-ghost use Rattle.std.specs.Prelude.{◌<◌, length, All, IsTrue};
-ghost use Rattle.plane_set.specs.Standing.{HasPlanes};
+ghost use Rattle.std.specs.Prelude.{All, IsTrue};
 ghost use Rattle.strip_moves.specs.Boxes.{IsBoardBox};
 
 use crate::{Found, search};
@@ -12,17 +11,32 @@ use std::alloc::Global;
 use std::process::Abort;
 use std::test::Fail;
 
-fn name(alloc: Global, text: &str) -> Result<List<Text>, NoMemory> {
-    let mut list = List::new(alloc);
-    list.push(Text::from_str(alloc, text)?)?;
-    Ok(list)
+const TOP: LayerId = LayerId(0);
+
+/// A board, 40 by 20, on which nothing stands, with neither layers nor nets.
+fn bare(alloc: Global, name: Text) -> BoardParts {
+    BoardParts {
+        name,
+        width: 40,
+        height: 20,
+        layers: List::new(alloc),
+        classes: List::new(alloc),
+        rules: List::new(alloc),
+        kind_names: List::new(alloc),
+        kinds: List::new(alloc),
+        pads: List::new(alloc),
+        blocks: List::new(alloc),
+        net_names: List::new(alloc),
+        net_classes: List::new(alloc),
+        pins: List::new(alloc),
+    }
 }
 
-fn left() -> Rect {
+fn left_pin() -> Rect {
     Rect::new(4, 9, 6, 11)
 }
 
-fn right() -> Rect {
+fn right_pin() -> Rect {
     Rect::new(34, 9, 36, 11)
 }
 
@@ -30,87 +44,70 @@ fn pin(area: Rect) -> Pin {
     Pin {
         net: NetId(0),
         area,
-        first: LayerId(0),
-        last: LayerId(0),
+        first: TOP,
+        last: TOP,
     }
 }
 
-/// A board of one layer, one class and one net with two pins, and a wall between them.
-fn parts_of(alloc: Global, wall: Rect) -> Result<BoardParts, NoMemory> {
-    let rule = Rule { half: 1, gap: 2 };
-    let block = Block {
-        layer: LayerId(0),
+/// One layer, one class and one net with two pins, and a wall.
+fn fill(alloc: Global, parts: &mut BoardParts, wall: Rect) -> Result<(), NoMemory> {
+    parts.layers.push(Text::from_str(alloc, "top")?)?;
+    parts.classes.push(Text::from_str(alloc, "thin")?)?;
+    parts.rules.push(Rule { half: 1, gap: 2 })?;
+    parts.net_names.push(Text::from_str(alloc, "a")?)?;
+    parts.net_classes.push(ClassId(0))?;
+    parts.blocks.push(Block {
+        layer: TOP,
         area: wall,
-    };
-    Ok(BoardParts {
-        name: Text::from_str(alloc, "small")?,
-        width: 40,
-        height: 20,
-        layers: name(alloc, "top")?,
-        classes: name(alloc, "thin")?,
-        rules: List::from_slice(alloc, &[rule])?,
-        kind_names: List::new(alloc),
-        kinds: List::new(alloc),
-        pads: List::new(alloc),
-        blocks: List::from_slice(alloc, &[block])?,
-        net_names: name(alloc, "a")?,
-        net_classes: List::from_slice(alloc, &[ClassId(0)])?,
-        pins: List::from_slice(alloc, &[pin(left()), pin(right())])?,
-    })
+    })?;
+    parts.pins.push(pin(left_pin()))?;
+    parts.pins.push(pin(right_pin()))
 }
 
-/// Whether the box lies on the board.
-fn is_board_box(board: &Board, s: Spot) -> bool
-    ensures { IsTrue result → IsBoardBox board.now.parts s }
-{
-    if s.layer.0 >= board.layers() {
-        return false;
-    }
-    if s.area.x0 < 0 {
-        return false;
-    }
-    if s.area.y0 < 0 {
-        return false;
-    }
-    if s.area.x1 > board.width() {
-        return false;
-    }
-    s.area.y1 <= board.height()
-}
-
-/// Searches from the one box to the other.
-fn search_between<P: Plane>(
-    rt: &impl Abort,
-    alloc: Global,
-    board: &Board,
-    planes: &PlaneSet<P>,
-    from: Spot,
-    to: Spot,
-) -> Result<Found, NoMemory>
-    requires { HasPlanes board.now.parts planes.now }
-{
-    assert!(rt; board.nets() > 0);
-    assert!(rt; is_board_box(board, from));
-    assert!(rt; is_board_box(board, to));
-    search(alloc, board, planes, NetId(0), &[from], &[to])
-}
-
-/// Searches from the first pin to the second one over the board with this wall.
-fn search_past<P: Plane>(rt: &impl Abort, alloc: Global, wall: Rect) -> Result<Found, NoMemory> {
-    let parts = parts_of(alloc, wall)?;
+fn board_with(rt: &impl Abort, alloc: Global, wall: Rect) -> Result<Board, NoMemory> {
+    let mut parts = bare(alloc, Text::from_str(alloc, "wall")?);
+    fill(alloc, &mut parts, wall)?;
     assert!(rt; parts.is_board());
-    let board = Board::build(alloc, parts)?;
+    Board::build(alloc, parts)
+}
+
+fn is_on_board(board: &Board, spot: Spot) -> bool
+    ensures { IsTrue result → IsBoardBox board.now.parts spot }
+{
+    if spot.layer.0 >= board.layers() {
+        return false;
+    }
+    if spot.area.x0 < 0 || spot.area.y0 < 0 {
+        return false;
+    }
+    if spot.area.x1 > board.width() {
+        return false;
+    }
+    spot.area.y1 <= board.height()
+}
+
+fn are_on_board(board: &Board, spots: &[Spot]) -> bool
+    ensures { IsTrue result → All (IsBoardBox board.now.parts) spots.now }
+{
+    spots.iter().all(|spot| is_on_board(board, *spot))
+}
+
+/// What the search finds from the left pin to the right one over the board with this wall.
+fn search_past<P: Plane>(rt: &impl Abort, alloc: Global, wall: Rect) -> Result<Found, NoMemory> {
+    let board = board_with(rt, alloc, wall)?;
     let planes: PlaneSet<P> = PlaneSet::build(alloc, &board)?;
-    let layer = LayerId(0);
-    let from = Spot {
-        layer,
-        area: left(),
-    };
-    let to = Spot {
-        layer,
-        area: right(),
-    };
-    search_between(rt, alloc, &board, &planes, from, to)
+    let sources = [Spot {
+        layer: TOP,
+        area: left_pin(),
+    }];
+    let targets = [Spot {
+        layer: TOP,
+        area: right_pin(),
+    }];
+    assert!(rt; board.nets() > 0);
+    assert!(rt; are_on_board(&board, &sources));
+    assert!(rt; are_on_board(&board, &targets));
+    search(alloc, &board, &planes, NetId(0), &sources, &targets)
 }
 
 /// What the path costs and where it ends, `None` where there is no route.
@@ -123,15 +120,19 @@ fn path_of(found: &Found) -> Option<(u128, Node)> {
 
 #[test]
 fn a_net_goes_round_a_wall_with_a_gap(rt: HostRuntime) -> Result<(), Fail> {
-    let alloc = rt.alloc();
-    let open = search_past::<FlatPlane>(&rt, alloc, Rect::new(18, 0, 22, 14))?;
+    let open = search_past::<FlatPlane>(&rt, rt.alloc(), Rect::new(18, 0, 22, 14))?;
     let end = Node {
         x: 34,
         y: 11,
-        layer: LayerId(0),
+        layer: TOP,
     };
     assert!(rt; path_of(&open) == Some((40, end)));
-    let shut = search_past::<FlatPlane>(&rt, alloc, Rect::new(18, 0, 22, 17))?;
+    Ok(())
+}
+
+#[test]
+fn no_route_leads_through_a_wall_up_to_the_edge(rt: HostRuntime) -> Result<(), Fail> {
+    let shut = search_past::<FlatPlane>(&rt, rt.alloc(), Rect::new(18, 0, 22, 17))?;
     assert!(rt; path_of(&shut).is_none());
     Ok(())
 }
