@@ -1,12 +1,24 @@
-ghost use Rattle.std.specs.Prelude.{All, IsTrue};
+ghost use Rattle.std.specs.Prelude.{◌<◌, ◌≡◌, length, slice_get, All, Some, IsTrue};
+ghost use Rattle.board_model.specs.Shapes.{place_of};
+ghost use Rattle.board_model.specs.WellFormed.{IsCoordinate, IsPlace};
+ghost use Rattle.path_trace.specs.Strips.{IsInStripOf};
+ghost use Rattle.plane_set.specs.Standing.{HasPlanes};
+ghost use Rattle.route_law.specs.declared.certs.Entry.{Entry as CertEntry};
+ghost use Rattle.route_law.specs.Right.{IsRight};
 ghost use Rattle.strip_moves.specs.Boxes.{IsBoardBox};
+ghost use Rattle.strip_moves.specs.Grounds.{ground_of};
+ghost use Rattle.tile_search.specs.Answers.{HasRightPath, HasPathEnd};
+ghost use Rattle.walk_check.specs.Corners.{HasPlaces};
 
 use crate::{Found, search};
-use board_model::{Block, Board, BoardParts, Pin, Rule};
+use board_model::{Block, Board, BoardParts, Conn, Pin, Rule};
+use cert_check::{Verdict, check};
 use flat_plane::FlatPlane;
 use geo_rect::{ClassId, LayerId, List, NetId, NoMemory, Node, Rect, Spot, Text};
+use path_trace::trace;
 use plane_core::Plane;
 use plane_set::PlaneSet;
+use route_law::Cert;
 use std::alloc::Global;
 use std::process::Abort;
 use std::test::Fail;
@@ -92,7 +104,113 @@ fn are_on_board(board: &Board, spots: &[Spot]) -> bool
     spots.iter().all(|spot| is_on_board(board, *spot))
 }
 
-/// What the search finds from the left pin to the right one over the board with this wall.
+fn is_near(v: i32) -> bool
+    ensures { IsTrue result → IsCoordinate v }
+{
+    if v < 0 {
+        return false;
+    }
+    v <= 100
+}
+
+fn is_place(node: Node) -> bool
+    ensures { IsTrue result → IsPlace (place_of node) }
+{
+    if !is_near(node.x) {
+        return false;
+    }
+    is_near(node.y)
+}
+
+fn has_places(conn: &Conn) -> bool
+    ensures { IsTrue result → HasPlaces conn.now }
+{
+    if !is_place(conn.start) {
+        return false;
+    }
+    conn.legs.as_slice().iter().all(|leg| is_place(leg.end()))
+}
+
+/// The verdict on the certificate, and on the connection that it promises for this entry and end.
+fn verdict_on_path<P: Plane>(
+    rt: &impl Abort,
+    alloc: Global,
+    board: &Board,
+    planes: &PlaneSet<P>,
+    sources: &[Spot],
+    targets: &[Spot],
+    cert: &Cert,
+    entry: u64,
+    end: Node,
+) -> Result<Verdict, NoMemory>
+    requires planes { HasPlanes board.now.parts planes.now }
+    requires net { 0 < length board.now.parts.net_names }
+    requires sources { All (IsBoardBox board.now.parts) sources.now }
+    requires targets { All (IsBoardBox board.now.parts) targets.now }
+    requires target { 0 < length targets.now }
+    requires right { IsRight (ground_of board.now.parts planes.now (NetId 0)) sources.now targets.now cert.now }
+    requires entry { entry < length cert.now.entries }
+    requires inside { (e : CertEntry) → slice_get cert.now.entries entry ≡ Some e → IsInStripOf e end }
+{
+    let net = NetId(0);
+    let conn = trace(
+        alloc, board, planes, net, sources, targets, cert, entry, end,
+    )?;
+    assert!(rt; has_places(&conn));
+    check(
+        alloc,
+        board,
+        planes,
+        net,
+        sources,
+        targets,
+        Some(&conn),
+        cert,
+    )
+}
+
+/// The verdict on what the search found, with the connection of a path.
+fn verdict_on<P: Plane>(
+    rt: &impl Abort,
+    alloc: Global,
+    board: &Board,
+    planes: &PlaneSet<P>,
+    sources: &[Spot],
+    targets: &[Spot],
+    found: &Found,
+) -> Result<Verdict, NoMemory>
+    requires planes { HasPlanes board.now.parts planes.now }
+    requires net { 0 < length board.now.parts.net_names }
+    requires sources { All (IsBoardBox board.now.parts) sources.now }
+    requires targets { All (IsBoardBox board.now.parts) targets.now }
+    requires target { 0 < length targets.now }
+    requires path { HasRightPath (ground_of board.now.parts planes.now (NetId 0)) sources.now targets.now found.now }
+    requires path_end { HasPathEnd targets.now found.now }
+{
+    match found {
+        Found::Path {
+            entry,
+            end,
+            cert,
+            ..
+        } => verdict_on_path(
+            rt, alloc, board, planes, sources, targets, cert, *entry, *end,
+        ),
+        Found::NoRoute { cert } => check(
+            alloc,
+            board,
+            planes,
+            NetId(0),
+            sources,
+            targets,
+            None,
+            cert,
+        ),
+    }
+}
+
+/// What the search finds from the left pin to the right one over the board with this wall; the
+/// checker must say yes to it.
 fn search_past<P: Plane>(rt: &impl Abort, alloc: Global, wall: Rect) -> Result<Found, NoMemory> {
     let board = board_with(rt, alloc, wall)?;
     let planes: PlaneSet<P> = PlaneSet::build(alloc, &board)?;
@@ -107,7 +225,10 @@ fn search_past<P: Plane>(rt: &impl Abort, alloc: Global, wall: Rect) -> Result<F
     assert!(rt; board.nets() > 0);
     assert!(rt; are_on_board(&board, &sources));
     assert!(rt; are_on_board(&board, &targets));
-    search(alloc, &board, &planes, NetId(0), &sources, &targets)
+    let found = search(alloc, &board, &planes, NetId(0), &sources, &targets)?;
+    let verdict = verdict_on(rt, alloc, &board, &planes, &sources, &targets, &found)?;
+    assert_eq!(rt; verdict, Verdict::Yes);
+    Ok(found)
 }
 
 /// What the path costs and where it ends, `None` where there is no route.
