@@ -137,6 +137,7 @@ fn verdict_on_path<P: Plane>(
     alloc: Global,
     board: &Board,
     planes: &PlaneSet<P>,
+    net: NetId,
     sources: &[Spot],
     targets: &[Spot],
     cert: &Cert,
@@ -144,15 +145,14 @@ fn verdict_on_path<P: Plane>(
     end: Node,
 ) -> Result<Verdict, NoMemory>
     requires planes { HasPlanes board.now.parts planes.now }
-    requires net { 0 < length board.now.parts.net_names }
+    requires net { net.0 < length board.now.parts.net_names }
     requires sources { All (IsBoardBox board.now.parts) sources.now }
     requires targets { All (IsBoardBox board.now.parts) targets.now }
     requires target { 0 < length targets.now }
-    requires right { IsRight (ground_of board.now.parts planes.now (NetId 0)) sources.now targets.now cert.now }
+    requires right { IsRight (ground_of board.now.parts planes.now net) sources.now targets.now cert.now }
     requires entry { entry < length cert.now.entries }
     requires inside { (e : CertEntry) → slice_get cert.now.entries entry ≡ Some e → IsInStripOf e end }
 {
-    let net = NetId(0);
     let conn = trace(
         alloc, board, planes, net, sources, targets, cert, entry, end,
     )?;
@@ -175,16 +175,17 @@ fn verdict_on<P: Plane>(
     alloc: Global,
     board: &Board,
     planes: &PlaneSet<P>,
+    net: NetId,
     sources: &[Spot],
     targets: &[Spot],
     found: &Found,
 ) -> Result<Verdict, NoMemory>
     requires planes { HasPlanes board.now.parts planes.now }
-    requires net { 0 < length board.now.parts.net_names }
+    requires net { net.0 < length board.now.parts.net_names }
     requires sources { All (IsBoardBox board.now.parts) sources.now }
     requires targets { All (IsBoardBox board.now.parts) targets.now }
     requires target { 0 < length targets.now }
-    requires path { HasRightPath (ground_of board.now.parts planes.now (NetId 0)) sources.now targets.now found.now }
+    requires path { HasRightPath (ground_of board.now.parts planes.now net) sources.now targets.now found.now }
     requires path_end { HasPathEnd targets.now found.now }
 {
     match found {
@@ -194,18 +195,9 @@ fn verdict_on<P: Plane>(
             cert,
             ..
         } => verdict_on_path(
-            rt, alloc, board, planes, sources, targets, cert, *entry, *end,
+            rt, alloc, board, planes, net, sources, targets, cert, *entry, *end,
         ),
-        Found::NoRoute { cert } => check(
-            alloc,
-            board,
-            planes,
-            NetId(0),
-            sources,
-            targets,
-            None,
-            cert,
-        ),
+        Found::NoRoute { cert } => check(alloc, board, planes, net, sources, targets, None, cert),
     }
 }
 
@@ -225,8 +217,9 @@ fn search_past<P: Plane>(rt: &impl Abort, alloc: Global, wall: Rect) -> Result<F
     assert!(rt; board.nets() > 0);
     assert!(rt; are_on_board(&board, &sources));
     assert!(rt; are_on_board(&board, &targets));
-    let found = search(alloc, &board, &planes, NetId(0), &sources, &targets)?;
-    let verdict = verdict_on(rt, alloc, &board, &planes, &sources, &targets, &found)?;
+    let net = NetId(0);
+    let found = search(alloc, &board, &planes, net, &sources, &targets)?;
+    let verdict = verdict_on(rt, alloc, &board, &planes, net, &sources, &targets, &found)?;
     assert_eq!(rt; verdict, Verdict::Yes);
     Ok(found)
 }
