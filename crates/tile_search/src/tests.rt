@@ -1,28 +1,54 @@
-ghost use Rattle.std.specs.Prelude.{◌<◌, length, All, IsTrue};
+ghost use Rattle.std.specs.Prelude.{◌<◌, ◌≡◌, length, slice_get, All, Some, IsTrue};
+ghost use Rattle.board_model.specs.Shapes.{place_of};
+ghost use Rattle.board_model.specs.WellFormed.{IsCoordinate, IsPlace};
+ghost use Rattle.path_trace.specs.Strips.{IsInStripOf};
 ghost use Rattle.plane_set.specs.Standing.{HasPlanes};
+ghost use Rattle.route_law.specs.declared.certs.Entry.{Entry as CertEntry};
+ghost use Rattle.route_law.specs.Right.{IsRight};
 ghost use Rattle.strip_moves.specs.Boxes.{IsBoardBox};
+ghost use Rattle.strip_moves.specs.Grounds.{ground_of};
+ghost use Rattle.tile_search.specs.Answers.{HasRightPath, HasPathEnd};
+ghost use Rattle.walk_check.specs.Corners.{HasPlaces};
 
 use crate::{Found, search};
-use board_model::{Block, Board, BoardParts, Pin, Rule};
+use board_model::{Block, Board, BoardParts, Conn, Pin, Rule};
+use cert_check::{Verdict, check};
 use flat_plane::FlatPlane;
 use geo_rect::{ClassId, LayerId, List, NetId, NoMemory, Node, Rect, Spot, Text};
+use path_trace::trace;
 use plane_core::Plane;
 use plane_set::PlaneSet;
+use route_law::Cert;
 use std::alloc::Global;
 use std::process::Abort;
 use std::test::Fail;
 
-fn name(alloc: Global, text: &str) -> Result<List<Text>, NoMemory> {
-    let mut list = List::new(alloc);
-    list.push(Text::from_str(alloc, text)?)?;
-    Ok(list)
+const TOP: LayerId = LayerId(0);
+
+/// A board, 40 by 20, on which nothing stands, with neither layers nor nets.
+fn bare(alloc: Global, name: Text) -> BoardParts {
+    BoardParts {
+        name,
+        width: 40,
+        height: 20,
+        layers: List::new(alloc),
+        classes: List::new(alloc),
+        rules: List::new(alloc),
+        kind_names: List::new(alloc),
+        kinds: List::new(alloc),
+        pads: List::new(alloc),
+        blocks: List::new(alloc),
+        net_names: List::new(alloc),
+        net_classes: List::new(alloc),
+        pins: List::new(alloc),
+    }
 }
 
-fn left() -> Rect {
+fn left_pin() -> Rect {
     Rect::new(4, 9, 6, 11)
 }
 
-fn right() -> Rect {
+fn right_pin() -> Rect {
     Rect::new(34, 9, 36, 11)
 }
 
@@ -30,87 +56,172 @@ fn pin(area: Rect) -> Pin {
     Pin {
         net: NetId(0),
         area,
-        first: LayerId(0),
-        last: LayerId(0),
+        first: TOP,
+        last: TOP,
     }
 }
 
-/// A board of one layer, one class and one net with two pins, and a wall between them.
-fn parts_of(alloc: Global, wall: Rect) -> Result<BoardParts, NoMemory> {
-    let rule = Rule { half: 1, gap: 2 };
-    let block = Block {
-        layer: LayerId(0),
+/// One layer, one class and one net with two pins, and a wall.
+fn fill(alloc: Global, parts: &mut BoardParts, wall: Rect) -> Result<(), NoMemory> {
+    parts.layers.push(Text::from_str(alloc, "top")?)?;
+    parts.classes.push(Text::from_str(alloc, "thin")?)?;
+    parts.rules.push(Rule { half: 1, gap: 2 })?;
+    parts.net_names.push(Text::from_str(alloc, "a")?)?;
+    parts.net_classes.push(ClassId(0))?;
+    parts.blocks.push(Block {
+        layer: TOP,
         area: wall,
-    };
-    Ok(BoardParts {
-        name: Text::from_str(alloc, "small")?,
-        width: 40,
-        height: 20,
-        layers: name(alloc, "top")?,
-        classes: name(alloc, "thin")?,
-        rules: List::from_slice(alloc, &[rule])?,
-        kind_names: List::new(alloc),
-        kinds: List::new(alloc),
-        pads: List::new(alloc),
-        blocks: List::from_slice(alloc, &[block])?,
-        net_names: name(alloc, "a")?,
-        net_classes: List::from_slice(alloc, &[ClassId(0)])?,
-        pins: List::from_slice(alloc, &[pin(left()), pin(right())])?,
-    })
+    })?;
+    parts.pins.push(pin(left_pin()))?;
+    parts.pins.push(pin(right_pin()))
 }
 
-/// Whether the box lies on the board.
-fn is_board_box(board: &Board, s: Spot) -> bool
-    ensures { IsTrue result → IsBoardBox board.now.parts s }
+fn board_with(rt: &impl Abort, alloc: Global, wall: Rect) -> Result<Board, NoMemory> {
+    let mut parts = bare(alloc, Text::from_str(alloc, "wall")?);
+    fill(alloc, &mut parts, wall)?;
+    assert!(rt; parts.is_board());
+    Board::build(alloc, parts)
+}
+
+fn is_on_board(board: &Board, spot: Spot) -> bool
+    ensures { IsTrue result → IsBoardBox board.now.parts spot }
 {
-    if s.layer.0 >= board.layers() {
+    if spot.layer.0 >= board.layers() {
         return false;
     }
-    if s.area.x0 < 0 {
+    if spot.area.x0 < 0 || spot.area.y0 < 0 {
         return false;
     }
-    if s.area.y0 < 0 {
+    if spot.area.x1 > board.width() {
         return false;
     }
-    if s.area.x1 > board.width() {
-        return false;
-    }
-    s.area.y1 <= board.height()
+    spot.area.y1 <= board.height()
 }
 
-/// Searches from the one box to the other.
-fn search_between<P: Plane>(
+fn are_on_board(board: &Board, spots: &[Spot]) -> bool
+    ensures { IsTrue result → All (IsBoardBox board.now.parts) spots.now }
+{
+    spots.iter().all(|spot| is_on_board(board, *spot))
+}
+
+fn is_near(v: i32) -> bool
+    ensures { IsTrue result → IsCoordinate v }
+{
+    if v < 0 {
+        return false;
+    }
+    v <= 100
+}
+
+fn is_place(node: Node) -> bool
+    ensures { IsTrue result → IsPlace (place_of node) }
+{
+    if !is_near(node.x) {
+        return false;
+    }
+    is_near(node.y)
+}
+
+fn has_places(conn: &Conn) -> bool
+    ensures { IsTrue result → HasPlaces conn.now }
+{
+    if !is_place(conn.start) {
+        return false;
+    }
+    conn.legs.as_slice().iter().all(|leg| is_place(leg.end()))
+}
+
+/// The verdict on the certificate, and on the connection that it promises for this entry and end.
+fn verdict_on_path<P: Plane>(
     rt: &impl Abort,
     alloc: Global,
     board: &Board,
     planes: &PlaneSet<P>,
-    from: Spot,
-    to: Spot,
-) -> Result<Found, NoMemory>
-    requires { HasPlanes board.now.parts planes.now }
+    net: NetId,
+    sources: &[Spot],
+    targets: &[Spot],
+    cert: &Cert,
+    entry: u64,
+    end: Node,
+) -> Result<Verdict, NoMemory>
+    requires planes { HasPlanes board.now.parts planes.now }
+    requires net { net.0 < length board.now.parts.net_names }
+    requires sources { All (IsBoardBox board.now.parts) sources.now }
+    requires targets { All (IsBoardBox board.now.parts) targets.now }
+    requires target { 0 < length targets.now }
+    requires right { IsRight (ground_of board.now.parts planes.now net) sources.now targets.now cert.now }
+    requires entry { entry < length cert.now.entries }
+    requires inside { (e : CertEntry) → slice_get cert.now.entries entry ≡ Some e → IsInStripOf e end }
 {
-    assert!(rt; board.nets() > 0);
-    assert!(rt; is_board_box(board, from));
-    assert!(rt; is_board_box(board, to));
-    search(alloc, board, planes, NetId(0), &[from], &[to])
+    let conn = trace(
+        alloc, board, planes, net, sources, targets, cert, entry, end,
+    )?;
+    assert!(rt; has_places(&conn));
+    check(
+        alloc,
+        board,
+        planes,
+        net,
+        sources,
+        targets,
+        Some(&conn),
+        cert,
+    )
 }
 
-/// Searches from the first pin to the second one over the board with this wall.
+/// The verdict on what the search found, with the connection of a path.
+fn verdict_on<P: Plane>(
+    rt: &impl Abort,
+    alloc: Global,
+    board: &Board,
+    planes: &PlaneSet<P>,
+    net: NetId,
+    sources: &[Spot],
+    targets: &[Spot],
+    found: &Found,
+) -> Result<Verdict, NoMemory>
+    requires planes { HasPlanes board.now.parts planes.now }
+    requires net { net.0 < length board.now.parts.net_names }
+    requires sources { All (IsBoardBox board.now.parts) sources.now }
+    requires targets { All (IsBoardBox board.now.parts) targets.now }
+    requires target { 0 < length targets.now }
+    requires path { HasRightPath (ground_of board.now.parts planes.now net) sources.now targets.now found.now }
+    requires path_end { HasPathEnd targets.now found.now }
+{
+    match found {
+        Found::Path {
+            entry,
+            end,
+            cert,
+            ..
+        } => verdict_on_path(
+            rt, alloc, board, planes, net, sources, targets, cert, *entry, *end,
+        ),
+        Found::NoRoute { cert } => check(alloc, board, planes, net, sources, targets, None, cert),
+    }
+}
+
+/// What the search finds from the left pin to the right one over the board with this wall; the
+/// checker must say yes to it.
 fn search_past<P: Plane>(rt: &impl Abort, alloc: Global, wall: Rect) -> Result<Found, NoMemory> {
-    let parts = parts_of(alloc, wall)?;
-    assert!(rt; parts.is_board());
-    let board = Board::build(alloc, parts)?;
+    let board = board_with(rt, alloc, wall)?;
     let planes: PlaneSet<P> = PlaneSet::build(alloc, &board)?;
-    let layer = LayerId(0);
-    let from = Spot {
-        layer,
-        area: left(),
-    };
-    let to = Spot {
-        layer,
-        area: right(),
-    };
-    search_between(rt, alloc, &board, &planes, from, to)
+    let sources = [Spot {
+        layer: TOP,
+        area: left_pin(),
+    }];
+    let targets = [Spot {
+        layer: TOP,
+        area: right_pin(),
+    }];
+    assert!(rt; board.nets() > 0);
+    assert!(rt; are_on_board(&board, &sources));
+    assert!(rt; are_on_board(&board, &targets));
+    let net = NetId(0);
+    let found = search(alloc, &board, &planes, net, &sources, &targets)?;
+    let verdict = verdict_on(rt, alloc, &board, &planes, net, &sources, &targets, &found)?;
+    assert_eq!(rt; verdict, Verdict::Yes);
+    Ok(found)
 }
 
 /// What the path costs and where it ends, `None` where there is no route.
@@ -123,15 +234,19 @@ fn path_of(found: &Found) -> Option<(u128, Node)> {
 
 #[test]
 fn a_net_goes_round_a_wall_with_a_gap(rt: HostRuntime) -> Result<(), Fail> {
-    let alloc = rt.alloc();
-    let open = search_past::<FlatPlane>(&rt, alloc, Rect::new(18, 0, 22, 14))?;
+    let open = search_past::<FlatPlane>(&rt, rt.alloc(), Rect::new(18, 0, 22, 14))?;
     let end = Node {
         x: 34,
         y: 11,
-        layer: LayerId(0),
+        layer: TOP,
     };
     assert!(rt; path_of(&open) == Some((40, end)));
-    let shut = search_past::<FlatPlane>(&rt, alloc, Rect::new(18, 0, 22, 17))?;
+    Ok(())
+}
+
+#[test]
+fn no_route_leads_through_a_wall_up_to_the_edge(rt: HostRuntime) -> Result<(), Fail> {
+    let shut = search_past::<FlatPlane>(&rt, rt.alloc(), Rect::new(18, 0, 22, 17))?;
     assert!(rt; path_of(&shut).is_none());
     Ok(())
 }
