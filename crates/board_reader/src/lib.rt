@@ -3,8 +3,6 @@
 
 mod additions;
 mod checks;
-#[cfg(test)]
-mod connector;
 mod drafts;
 mod finishing;
 mod forms;
@@ -22,6 +20,3 @@ pub use inputs::Input;
 pub use laws::refusals_are_first;
 pub use reading::read_input;
 pub use refusals::{ReadInput, Refusal, RefusalKind};
-
-#[cfg(test)]
-mod tests;

@@ -3,10 +3,14 @@
 
 mod answers;
 mod calls;
+#[cfg(test)]
+mod connector;
 mod endings;
 mod in_memory;
 mod inputs;
 mod lines;
+#[cfg(test)]
+mod reader_tests;
 mod replies;
 mod requests;
 #[cfg(test)]

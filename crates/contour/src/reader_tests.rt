@@ -1,5 +1,7 @@
-use super::*;
+//! The reader of board texts: refusals by line and kind, and whole boards.
+
 use crate::connector::CONNECTOR;
+use board_reader::{Input, ReadInput, read_input};
 use std::alloc::{AllocError, Global};
 use std::process::Abort;
 use std::test::Fail;
