@@ -1,4 +1,5 @@
 pub mod Boxes
+pub mod Commands
 pub mod Groups
 pub mod Known
 pub mod Labels

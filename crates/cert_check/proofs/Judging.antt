@@ -17,7 +17,8 @@ use Rattle.cert_check.specs.declared.verdicts.Why.{Why}
 use Rattle.cert_check.specs.declared.verdicts.Why.TheVariants as why
 use Rattle.cert_check.specs.Searches.{IsFirst, IsSearched}
 use Rattle.cert_check.specs.Stages.{Placed, Founded, Started, Followed, ArePlaced, AreFounded, IsClosed}
-use Rattle.cert_check.specs.Verdicts.{IsMatch, IsLeastConnection, IsFault, IsGood, IsVerdict}
+use Rattle.cert_check.specs.Verdicts.{IsMatch, IsFault, IsGood, IsVerdict}
+use Rattle.route_law.specs.Joins.{IsLeastConnection}
 use Rattle.cert_check.proofs.Numbered.{listed_numbered, numbered_listed}
 
 pub searched_none : {A : Type 0} (IsWanted : ℕ → A → Type 0) (items : List A) (o : Option ℕ) → o ≡ None → IsSearched IsWanted items o → EachAt IsWanted items

@@ -6,8 +6,7 @@ use Rattle.board_model.specs.declared.parts.BoardParts.{BoardParts}
 use Rattle.route_law.specs.declared.certs.Cert.{Cert}
 use Rattle.route_law.specs.Ground.{Ground}
 use Rattle.route_law.specs.Right.{IsBoundOf, IsRight}
-use Rattle.route_law.specs.Walks.{IsLowerBound}
-use Rattle.walk_check.specs.Corners.{IsConnection}
+use Rattle.route_law.specs.Joins.{IsConnection}
 use Rattle.cert_check.specs.declared.verdicts.Verdict.{Verdict}
 use Rattle.cert_check.specs.declared.verdicts.Verdict.TheVariants.{Yes, No}
 use Rattle.cert_check.specs.declared.verdicts.Why.{Why}
@@ -58,11 +57,6 @@ pub record IsGood (b : BoardParts) (g : Ground) (sources targets : List Spot) (c
 abbrev pub IsVerdict : BoardParts → Ground → List Spot → List Spot → Option Conn → Cert → Verdict → Type 0
 IsVerdict b g sources targets conn cert Yes = IsGood b g sources targets conn cert
 IsVerdict b g sources targets conn cert (No n reason) = IsFault b g sources targets conn cert n reason
-
--- the connection is a walk from a source box to a target box, at its own cost, and no such walk costs less
-pub record IsLeastConnection (b : BoardParts) (g : Ground) (sources targets : List Spot) (conn : Conn) : Type 0 where
-  pub connection : IsConnection b g conn sources targets
-  pub least : IsLowerBound g sources targets conn.cost
 
 -- P, if the verdict is yes
 abbrev pub IfYes : Verdict → Type 0 → Type 0

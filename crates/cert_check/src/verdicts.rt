@@ -5,7 +5,8 @@ ghost use Rattle.route_law.specs.Walks.{HasNoJoiningWalk};
 ghost use Rattle.strip_moves.specs.Grounds.{ground_of};
 ghost use Rattle.walk_check.specs.Corners.{HasPlaces};
 ghost use Rattle.strip_moves.specs.Boxes.{IsBoardBox};
-ghost use Rattle.cert_check.specs.Verdicts.{IsVerdict, IfYes, IsLeastConnection};
+ghost use Rattle.cert_check.specs.Verdicts.{IsVerdict, IfYes};
+ghost use Rattle.route_law.specs.Joins.{IsLeastConnection};
 
 use crate::bounds::is_bound;
 use crate::paths::is_match;

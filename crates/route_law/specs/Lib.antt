@@ -2,6 +2,11 @@ pub mod Boards
 pub mod Connections
 pub mod Covers
 pub mod Ground
+pub mod Joins
+pub mod Kept
 pub mod Moves
+pub mod Regular
 pub mod Right
+pub mod Routing
+pub mod Steps
 pub mod Walks

@@ -15,7 +15,8 @@ use Rattle.route_law.specs.Ground.{Ground}
 use Rattle.route_law.specs.Walks.{HasNode, last_node, walk_cost}
 use Rattle.route_law.proofs.Law.{first_passable}
 use Rattle.strip_moves.specs.Grounds.{ground_of}
-use Rattle.walk_check.specs.Corners.{corner_after, HasPlaces, IsConnection, IsGoodStart, IsGoodLeg, IsGoodCorner, IsFirstBadCorner, AreGoodLegs, IsFirstBadLeg, HasKind}
+use Rattle.walk_check.specs.Corners.{corner_after, HasPlaces, IsGoodStart, IsGoodLeg, IsGoodCorner, IsFirstBadCorner, AreGoodLegs, IsFirstBadLeg, HasKind}
+use Rattle.route_law.specs.Joins.{IsConnection}
 use Rattle.walk_check.proofs.GoodLegs.{AreGood, good_steps, legs_end, legs_walk, legs_good, good_at, good_from}
 
 -- what is said of no value holds where no value is the one

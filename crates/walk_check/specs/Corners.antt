@@ -8,18 +8,11 @@ use Rattle.board_model.specs.declared.made.Leg.{Leg}
 use Rattle.board_model.specs.declared.made.Leg.TheVariants.{Wire, Via}
 use Rattle.board_model.specs.declared.parts.BoardParts.{BoardParts}
 use Rattle.board_model.specs.Shapes.{place_of, end_of}
-use Rattle.board_model.specs.WellFormed.{IsPlace, IsStep, IsWellFormed}
+use Rattle.board_model.specs.WellFormed.{IsPlace, IsStep}
 use Rattle.route_law.specs.Connections.{steps_of}
 use Rattle.route_law.specs.Ground.{Ground, IsPassableNode}
-use Rattle.route_law.specs.Walks.{HasNode, IsJoiningWalk, last_node, walk_cost}
+use Rattle.route_law.specs.Walks.{HasNode, last_node, walk_cost}
 use Rattle.walk_check.specs.Clear.{IsClearLeg}
-
--- the connection is well formed, its steps are a walk from a source box to a target box, and its cost is
--- that of the walk
-pub record IsConnection (b : BoardParts) (g : Ground) (conn : Conn) (sources targets : List Spot) : Type 0 where
-  pub well_formed : IsWellFormed b conn
-  pub walk : IsJoiningWalk g sources targets conn.start (steps_of conn)
-  pub cost : walk_cost g (steps_of conn) ≡ conn.cost
 
 -- the coordinates of each corner lie between -2^24 and 2^24
 pub record HasPlaces (conn : Conn) : Type 0 where

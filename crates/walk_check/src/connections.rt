@@ -3,7 +3,8 @@
 ghost use Rattle.std.specs.Prelude.{◌≡◌, ◌<◌, ◌^◌, length, IfOk, IfSome, IfNone};
 ghost use Rattle.plane_set.specs.Standing.{HasPlanes};
 ghost use Rattle.route_law.specs.Walks.{last_node};
-ghost use Rattle.walk_check.specs.Corners.{HasPlaces, IsConnection, IsFirstBadCorner};
+ghost use Rattle.walk_check.specs.Corners.{HasPlaces, IsFirstBadCorner};
+ghost use Rattle.route_law.specs.Joins.{IsConnection};
 ghost use Rattle.strip_moves.specs.Grounds.{ground_of};
 
 use crate::costs::cost_of;

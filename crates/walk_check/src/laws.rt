@@ -6,7 +6,8 @@ ghost use Rattle.geo_rect.specs.declared.ids.Spot.{Spot};
 ghost use Rattle.board_model.specs.declared.made.Conn.{Conn};
 ghost use Rattle.board_model.specs.declared.parts.BoardParts.{BoardParts};
 ghost use Rattle.plane_set.specs.Standing.{PlaneTable};
-ghost use Rattle.walk_check.specs.Corners.{HasPlaces, IsConnection, IsGoodCorner};
+ghost use Rattle.walk_check.specs.Corners.{HasPlaces, IsGoodCorner};
+ghost use Rattle.route_law.specs.Joins.{IsConnection};
 ghost use Rattle.strip_moves.specs.Grounds.{ground_of};
 
 /// A connection is a walk of the net with its true cost exactly where each of its corners is good.

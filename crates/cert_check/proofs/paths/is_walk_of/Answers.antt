@@ -1,5 +1,5 @@
 use Rattle.strip_moves.specs.Grounds.{ground_of}
-use Rattle.walk_check.specs.Corners.{IsConnection}
+use Rattle.route_law.specs.Joins.{IsConnection}
 use Rattle.cert_check.proofs.Cases.{none_decides}
 use Rattle.cert_check.proofs.paths.is_walk_of.Goals as goal
 
