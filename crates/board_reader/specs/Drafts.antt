@@ -11,7 +11,6 @@ use Rattle.board_reader.specs.declared.forms.Form.{Form}
 use Rattle.board_reader.specs.declared.forms.Form.TheVariants as form
 use Rattle.board_reader.specs.declared.forms.Stage.TheVariants.{Start, Parts, Commands}
 use Rattle.board_reader.specs.declared.finishing.NameLists.{NameLists}
-use Rattle.board_reader.specs.declared.finishing.Tables.{Tables}
 use Rattle.board_reader.specs.Corners.{span}
 use Rattle.board_reader.specs.Lines.{word}
 use Rattle.board_reader.specs.Names.{number_in}
@@ -140,10 +139,3 @@ parts_of d = record {
 -- all names
 abbrev pub names_of_draft : Draft → NameLists
 names_of_draft d = record { layers = d.layers; classes = d.classes; kinds = d.kind_names; nets = d.net_names }
-
--- the rules and the pads, laid out
-abbrev pub tables_of_draft : Draft → Tables
-tables_of_draft d = record {
-  rules = table d.rules (length d.layers) (length d.classes);
-  pads = table d.pads (length d.kind_names) (length d.classes);
-}

@@ -13,6 +13,7 @@ mod names;
 mod numbers;
 mod reading;
 mod refusals;
+mod splits;
 mod tables;
 mod words;
 
@@ -20,3 +21,4 @@ pub use inputs::Input;
 pub use laws::refusals_are_first;
 pub use reading::read_input;
 pub use refusals::{ReadInput, Refusal, RefusalKind};
+pub use splits::{Split, split_check};
