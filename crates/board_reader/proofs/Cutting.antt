@@ -15,7 +15,7 @@ pub record IsCut (text piece rest : List ℕ) : Type 0 where
   pub falls : pieces text ≡ piece ∷ pieces rest
   pub bytes : min (length text) (length piece + 1) + length rest ≡ length text
 
-position-here : {X : Type 0} (p : X → Bool) (x : X) (xs : List X) → p x ≡ true → position p (x ∷ xs) ≡ Some 0
+pub position-here : {X : Type 0} (p : X → Bool) (x : X) (xs : List X) → p x ≡ true → position p (x ∷ xs) ≡ Some 0
 position-here p x xs e = let t : ltb 0 (suc (length xs)) ≡ true = grind (arith, nat_tests) in rw e (cond-true _ _ _ t)
 
 one-further : (n m : ℕ) → cond (ltb (1 + n) (suc m)) (Some (1 + n)) None ≡ option_map (λ (k : ℕ). k + 1) (cond (ltb n m) (Some n) None)
@@ -25,7 +25,7 @@ one-further n m =
       | inr h ↦ let a : ltb n m ≡ false = grind (arith, nat_tests) in let b : ltb (1 + n) (suc m) ≡ false = grind (arith, nat_tests) in rw (a, b) refl
     ]
 
-position-later : {X : Type 0} (p : X → Bool) (x : X) (xs : List X) → p x ≡ false → position p (x ∷ xs) ≡ option_map (λ (k : ℕ). k + 1) (position p xs)
+pub position-later : {X : Type 0} (p : X → Bool) (x : X) (xs : List X) → p x ≡ false → position p (x ∷ xs) ≡ option_map (λ (k : ℕ). k + 1) (position p xs)
 position-later p x xs e = rw e (one-further (position_or_len p xs) (length xs))
 
 first-line : (text piece rest : List ℕ) → IsCut text piece rest → lines text ≡ without_return piece ∷ lines rest

@@ -1,5 +1,5 @@
 -- Where a text is cut in two: at its first line whose only word is `replies`.
-use Rattle.std.specs.Prelude.{ℕ, ◌+◌, min, Bool, false, List, [], ◌∷◌, length, take, Option, codes, position}
+use Rattle.std.specs.Prelude.{◌≡◌, ℕ, ◌+◌, min, Bool, false, List, [], ◌∷◌, ◌++◌, length, take, drop, Option, codes, position, All}
 use Rattle.std.specs.List.{sum_by}
 use Rattle.std.specs.Option.{option_map}
 use Rattle.std.specs.Str.{bytes_eq}
@@ -27,3 +27,18 @@ split_at text n = record { text_end = bytes_of text n; replies_start = bytes_of 
 -- the cut at the first line whose only word is `replies`, if there is one
 unfoldable pub split_of : List ℕ → Option Split
 split_of text = option_map (split_at text) (position is_mark (lines text))
+
+-- the line's only word is `replies`, said of its words
+abbrev pub IsMark : List ℕ → Type 0
+IsMark line = words line ≡ codes "replies" ∷ []
+
+abbrev pub IsNoMark : List ℕ → Type 0
+IsNoMark line = IsMark line → ⊥
+
+-- the text's lines are those of the bytes before the cut, none of which is `replies` alone, that line, and those of the bytes after the cut
+pub record IsSplit (text : List ℕ) (s : Split) : Type 0 where
+  pub line : List ℕ
+  pub cut : lines text ≡ lines (take s.text_end text) ++ line ∷ lines (drop s.replies_start text)
+  pub mark : IsMark line
+  pub first : All IsNoMark (lines (take s.text_end text))
+  pub number : s.lines ≡ length (lines (take s.text_end text)) + 1

@@ -18,7 +18,7 @@ mod tables;
 mod words;
 
 pub use inputs::Input;
-pub use laws::refusals_are_first;
+pub use laws::{refusals_are_first, splits_are_first};
 pub use reading::read_input;
 pub use refusals::{ReadInput, Refusal, RefusalKind};
 pub use splits::{Split, split_check};
