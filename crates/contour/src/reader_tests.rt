@@ -1,7 +1,7 @@
 //! The reader of board texts: refusals by line and kind, and whole boards.
 
 use crate::connector::CONNECTOR;
-use board_reader::{Input, ReadInput, read_input};
+use board_reader::{Input, ReadInput, read_input, split_check};
 use std::alloc::{AllocError, Global};
 use std::process::Abort;
 use std::test::Fail;
@@ -167,6 +167,46 @@ fn tells_the_first_line_and_kind(rt: HostRuntime) -> Result<(), Fail> {
         let kind = number(numbers.next())?;
         let bytes = changed(rt.alloc(), first, last, text)?;
         assert_eq!(rt; refusal_of(rt.alloc(), &bytes)?, (line, kind), "{case}");
+    }
+    Ok(())
+}
+
+/// Texts in which the replies are sought, one a line. The numbers are how many bytes stand before the
+/// line `replies` and before what follows it, and its number, or zeros where there is no such line.
+const SPLITS: &str = "4 12 2|end;replies;rules 0;
+4 11 2|end;replies
+0 8 1|replies;replies;
+4 16 2|end; \treplies \r;all 0;
+9 17 4|# a;;rep;replies;
+0 0 0|
+0 0 0|end;rules;
+0 0 0|end;replies\r\r;
+0 0 0|# replies;
+0 0 0|replies now;now replies;Replies;repliess;replie;";
+
+/// The ends and the line of a cut, and zeros where there is none.
+fn cut_of(bytes: &[u8]) -> (u64, u64, u64) {
+    match split_check(bytes) {
+        Some(split) => (
+            split.text_end as u64,
+            split.replies_start as u64,
+            split.lines,
+        ),
+        None => (0, 0, 0),
+    }
+}
+
+#[test]
+fn cuts_at_the_first_line_of_replies(rt: HostRuntime) -> Result<(), Fail> {
+    for case in SPLITS.split('\n') {
+        let (numbers, text) = case.split_once('|').ok_or("a case has a text")?;
+        let mut numbers = numbers.split(' ');
+        let end = number(numbers.next())?;
+        let start = number(numbers.next())?;
+        let line = number(numbers.next())?;
+        let mut bytes = Vec::new(rt.alloc());
+        add(&mut bytes, text, b';', b"\n")?;
+        assert_eq!(rt; cut_of(&bytes), (end, start, line), "{case}");
     }
     Ok(())
 }
