@@ -1,4 +1,7 @@
 pub mod Broken
+pub mod Corners
 pub mod Keeping
+pub mod Legs
 pub mod Regular
 pub mod Shapes
+pub mod Wide
