@@ -14,7 +14,7 @@ use Rattle.rule_check.specs.Meaning.{shape_on, IsClosePair, IsOutside}
 use Rattle.rule_check.proofs.Exact.{close_exact, outside_exact}
 use Rattle.rule_check.proofs.Members.{Contains-from_place}
 use Rattle.step_laws.specs.Broken.{IsNamed}
-use Rattle.step_laws.proofs.Keeping.{AreClose, close_back}
+use Rattle.step_laws.proofs.Pairs.{AreClose, close_back}
 
 module _ (b : BoardParts) (lists : List (List Conn)) (state : IsState b lists) where
   -- a shape of a connection is too close to no shape of the state

@@ -1,5 +1,5 @@
 -- The corners of a connection whose steps are a walk of the net are on the board.
-use Rattle.std.proofs.Common.{ℤ, pos, ◌≡◌, ◌≤ℤ◌, List, [], ◌∷◌, All, arith}
+use Rattle.std.proofs.Common.{ℤ, pos, ◌≤ℤ◌, List, [], ◌∷◌, All, arith}
 use Rattle.std.proofs.lemmas.Int.{ints}
 use Rattle.std.proofs.lemmas.List.Elements.{All-nil, All-cons}
 use Rattle.geo_rect.specs.declared.ids.NetId.{NetId}

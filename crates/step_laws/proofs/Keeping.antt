@@ -1,15 +1,10 @@
 -- Each step of a command leads from a state to a state.
-use Rattle.std.proofs.Common.{ℕ, ℤ, ◌≡◌, ◌≢◌, ◌+◌, ◌-◌, ◌<◌, ◌≤◌, ◌⊎◌, inl, inr, List, [], ◌∷◌, ◌++◌, length, get_or, set, Option, Some, None, Contains, All, refl, sym, ap, subst, ◌∙◌, arith}
-use Rattle.std.specs.Int.{int_max}
+use Rattle.std.proofs.Common.{ℕ, ◌≡◌, ◌+◌, ◌<◌, ◌≤◌, ◌⊎◌, inl, inr, List, [], ◌∷◌, ◌++◌, length, get_or, Option, Some, None, Contains, All, refl, sym, ap, subst, ◌∙◌, arith}
 use Rattle.std.proofs.lemmas.Bool.{cases_eq}
-use Rattle.std.proofs.lemmas.Int.{ints, clamps}
 use Rattle.std.proofs.lemmas.List.{length-append, length-set, get_or-set_same, get_or-set_other}
 use Rattle.std.proofs.lemmas.List.Elements.{All-nil, All-cons, All-head, All-tail, All-append, All-map, All-push, All-set, All-get_or, All-contains, Contains-append_right}
-use Rattle.geo_rect.specs.declared.ids.LayerId.{LayerId}
 use Rattle.geo_rect.specs.declared.ids.NetId.{NetId}
 use Rattle.geo_rect.specs.declared.ids.Node.{Node}
-use Rattle.geo_rect.specs.declared.shapes.Rect.{Rect}
-use Rattle.geo_rect.specs.Plane.{IsTooClose}
 use Rattle.board_model.specs.declared.commands.Command.{Command}
 use Rattle.board_model.specs.declared.made.Conn.{Conn}
 use Rattle.board_model.specs.declared.made.Leg.{Leg}
@@ -17,11 +12,9 @@ use Rattle.board_model.specs.declared.made.Leg.TheVariants.{Wire, Via}
 use Rattle.board_model.specs.declared.parts.BoardParts.{BoardParts}
 use Rattle.board_model.specs.declared.shapes.Shape.{Shape}
 use Rattle.board_model.specs.Commands.{IsCommandOf}
-use Rattle.board_model.specs.Lookup.{rule_of, class_of}
 use Rattle.board_model.specs.Made.{conns_of, with_conn, without_conns}
 use Rattle.board_model.specs.Rules.{IsBoard}
 use Rattle.board_model.specs.Shapes.{end_of, leg_shapes, legs_shapes, conn_shapes, made_shapes, board_shapes, state_shapes}
-use Rattle.board_model.specs.Spacing.{gap_between}
 use Rattle.board_model.specs.WellFormed.{IsWellFormed}
 use Rattle.board_model.proofs.WellFormed.{with_conn_well_formed}
 use Rattle.route_law.specs.declared.replies.Fail.{Fail}
@@ -29,7 +22,6 @@ use Rattle.route_law.specs.declared.replies.Made1.{Made1}
 use Rattle.route_law.specs.declared.replies.Reply.{Reply}
 use Rattle.route_law.specs.declared.replies.Reply.TheVariants as reply
 use Rattle.route_law.specs.declared.replies.Routed.{Routed}
-use Rattle.route_law.specs.Ground.{Ground}
 use Rattle.route_law.specs.Joins.{IsConnection}
 use Rattle.route_law.specs.Kept.{KeepsRules, IsKept, IsState}
 use Rattle.route_law.specs.Regular.{IsRegularConn}
@@ -37,39 +29,8 @@ use Rattle.route_law.specs.Routing.{IsNextConnection, AreMadeInTurn, IsDoneOrStu
 use Rattle.route_law.specs.Steps.{IsStep, IsAnswer, IsRunFrom, command_of}
 use Rattle.step_laws.proofs.Corners.{conn_regular}
 use Rattle.step_laws.proofs.Legs.{legs_clear, legs_keep}
+use Rattle.step_laws.proofs.Pairs.{AreClose, close_back}
 use Rattle.step_laws.proofs.Shapes.{shapes_with_conn, shapes_without_conns, made_with_conn, made_without_conns}
-
--- what is too close one way is so the other way, and the gap of two owners is one
-pub too_close-sym : (x y : Rect) (s : ℤ) → IsTooClose x y s → IsTooClose y x s
-too_close-sym x y s t = record {
-  across = record { after = t.across.before; before = t.across.after };
-  up = record { after = t.up.before; before = t.up.after };
-}
-
-max-sym : (x y : ℤ) → int_max x y ≡ int_max y x
-max-sym x y = omega (arith, ints, clamps)
-
-pub gap_between-sym : (b : BoardParts) (l : LayerId) (x y : Option NetId) → gap_between b l x y ≡ gap_between b l y x
-gap_between-sym b l None None = refl
-gap_between-sym b l None (Some n) = refl
-gap_between-sym b l (Some m) None = refl
-gap_between-sym b l (Some m) (Some n) = max-sym (rule_of b l (class_of b m)).gap (rule_of b l (class_of b n)).gap
-
--- two shapes of two owners on one layer that are too close for their gap
-pub record AreClose (b : BoardParts) (s t : Shape) : Type 0 where
-  pub layer : t.layer ≡ s.layer
-  pub owner : t.owner ≢ s.owner
-  pub close : IsTooClose s.area t.area (gap_between b s.layer s.owner t.owner)
-
-pub close_back : (b : BoardParts) (s t : Shape) → AreClose b s t → AreClose b t s
-close_back b s t h =
-    let back : IsTooClose t.area s.area (gap_between b s.layer s.owner t.owner) = too_close-sym s.area t.area _ h.close in
-    let turned : IsTooClose t.area s.area (gap_between b s.layer t.owner s.owner) = subst (λ (z : ℤ). IsTooClose t.area s.area z) (gap_between-sym b s.layer s.owner t.owner) back in
-    record {
-      layer = sym h.layer;
-      owner = λ e. h.owner (sym e);
-      close = subst (λ (l : LayerId). IsTooClose t.area s.area (gap_between b l t.owner s.owner)) (sym h.layer) turned;
-    }
 
 -- each shape of a net's connection is the net's
 legs_owned : (b : BoardParts) (n : NetId) (v : Node) (legs : List Leg) → All (λ (s : Shape). s.owner ≡ Some n) (legs_shapes b n v legs)

@@ -1,6 +1,5 @@
 -- What the shapes of a connection keep of the rules: each point of its walk is left to the net.
-use Rattle.std.proofs.Common.{ℤ, pos, ◌≡◌, ◌≢◌, ◌<◌, ◌≤◌, ◌+◌, ◌-◌, ◌*◌, ◌≤ℤ◌, ◌⊎◌, inl, inr, List, [], ◌∷◌, ◌++◌, length, get_or, Option, Some, None, Contains, All, refl, sym, ap, subst, ◌∙◌, arith}
-use Rattle.std.specs.List.{range_with_len}
+use Rattle.std.proofs.Common.{ℤ, pos, ◌≡◌, ◌<◌, ◌≤◌, ◌+◌, ◌-◌, ◌*◌, ◌≤ℤ◌, ◌⊎◌, inl, inr, List, [], ◌∷◌, ◌++◌, length, Option, Some, None, All, refl, sym, subst, arith}
 use Rattle.std.specs.Int.{int_max}
 use Rattle.std.proofs.lemmas.Bool.{cases_lt}
 use Rattle.std.proofs.lemmas.Int.{ints, clamps}
@@ -20,7 +19,7 @@ use Rattle.board_model.specs.declared.made.Leg.TheVariants.{Wire, Via}
 use Rattle.board_model.specs.declared.parts.BoardParts.{BoardParts}
 use Rattle.board_model.specs.declared.parts.ViaKind.{ViaKind}
 use Rattle.board_model.specs.declared.shapes.Shape.{Shape}
-use Rattle.board_model.specs.Labels.{PlaneRule, wire_plane, via_plane, IsInSpan, IsLeftTo}
+use Rattle.board_model.specs.Labels.{wire_plane, via_plane, IsInSpan, IsLeftTo}
 use Rattle.board_model.specs.Lookup.{rule_of, pad_of, kind_of, class_of, layer_at, layers_from}
 use Rattle.board_model.specs.Rules.{IsBoard, IsRule}
 use Rattle.board_model.specs.Segments.{segment}
@@ -34,9 +33,10 @@ use Rattle.route_law.specs.Connections.{steps_of_leg, steps_of_legs, IsStraight}
 use Rattle.route_law.specs.Ground.{Ground, IsPassableNode, IsPassableVia}
 use Rattle.route_law.specs.Kept.{KeepsRules}
 use Rattle.route_law.specs.Walks.{IsWalk, last_node}
+use Rattle.route_law.proofs.Law.{first_passable}
 use Rattle.route_law.proofs.OnBoards.{passable_nodes, passable_vias}
 use Rattle.route_law.proofs.Wires.{wire_end}
-use Rattle.walk_check.specs.Clear.{node_at, IsClearWire, IsClearVia, IsClearLeg}
+use Rattle.walk_check.specs.Clear.{node_at, IsClearWire, IsClearLeg}
 use Rattle.walk_check.proofs.Lines.{line_first}
 use Rattle.walk_check.proofs.Units.{walk_clear}
 use Rattle.step_laws.proofs.Wide.{IsSquareTooClose, square_too_close, segment_on_board, line_last}
@@ -58,10 +58,6 @@ walk_parts g v [] [] h = (h, h)
 walk_parts g v [] (leg ∷ legs) h = (h.0, h)
 walk_parts g v (leg ∷ legs) second h = let k = walk_parts g (end_of leg) legs second h.2 in ((h.0, h.1, k.0), k.1)
 
-starts_passable : (g : Ground) (v : Node) (steps : List Leg) → IsWalk g v steps → IsPassableNode g v
-starts_passable g v [] h = h
-starts_passable g v (step ∷ steps) h = h.0
-
 module _ (b : BoardParts) (g : Ground) where
   leg_clear : (v : Node) (leg : Leg) → IsStep b v leg → IsWalk g v (steps_of_leg v leg) → IsClearLeg g v leg
   leg_clear v (Wire w) s walk = walk_clear g v w (straight_wire v w s.form) walk
@@ -78,7 +74,7 @@ module _ (b : BoardParts) (g : Ground) where
       let second : List Leg = steps_of_legs (end_of leg) legs in
       let parts = walk_parts g v (steps_of_leg v leg) second walk in
       let rest : IsWalk g (end_of leg) second = subst (λ (u : Node). IsWalk g u second) (leg_end v leg s.0) parts.1 in
-      (leg_clear v leg s.0 parts.0, starts_passable g (end_of leg) second rest, legs_clear (end_of leg) legs s.1 rest)
+      (leg_clear v leg s.0 parts.0, first_passable g (end_of leg) second rest, legs_clear (end_of leg) legs s.1 rest)
 
 -- the rule of a layer and a class asks for something
 some_rule : (b : BoardParts) → IsBoard b → (l : LayerId) (c : ClassId) → IsRule (rule_of b l c)
