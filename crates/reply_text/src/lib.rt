@@ -8,6 +8,8 @@ mod conns;
 mod printing;
 mod routes;
 mod strips;
+#[cfg(test)]
+mod tests;
 mod violations;
 mod words;
 

@@ -40,7 +40,6 @@ fn push_coordinate(text: &mut List<u8>, number: i32) -> Result<(), NoMemory>
 }
 
 /// Adds the four numbers of a rectangle.
-#[tactic(auto, unfolding(crate::specs::Texts::area_text))]
 pub fn push_area(text: &mut List<u8>, area: Rect) -> Result<(), NoMemory>
     ensures { OnOk result (text.new ≡ text.old ++ area_text area) }
 {
