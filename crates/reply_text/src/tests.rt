@@ -1,5 +1,5 @@
 ghost use Rattle.std.specs.Prelude.{◌≡◌, ◌-◌, ◌<◌, All, IfOk, IsTrue, length};
-ghost use Rattle.route_law.specs.Regular.{IsFromZero, IsRegular, IsRegularConn, IsRegularEntry, IsRegularLabel, IsRegularLeg, IsRegularMade, IsRegularNode, IsRegularOrigin, IsRegularRouted};
+ghost use Rattle.route_law.specs.Regular.{IsFromZero, IsRegular, IsRegularConn, IsRegularEntry, IsRegularLabel, IsRegularLeg, IsRegularNode, IsRegularOrigin, IsRegularRouted, IsRegularViolation};
 
 use crate::print;
 use board_model::{Board, BoardParts, Conn, Leg, Owned, Pin, Rule, ViaKind, Violation};
@@ -244,6 +244,21 @@ fn push_over(entries: &mut List<Entry>) -> Result<(), NoMemory> {
     ))
 }
 
+fn entries_over(alloc: Global) -> Result<List<Entry>, NoMemory> {
+    let mut entries = List::new(alloc);
+    push_near(&mut entries)?;
+    push_around(&mut entries, Rect::new(1, 14, 15, 16))?;
+    push_over(&mut entries)?;
+    Ok(entries)
+}
+
+fn entries_before_a_wall(alloc: Global) -> Result<List<Entry>, NoMemory> {
+    let mut entries = List::new(alloc);
+    push_near(&mut entries)?;
+    push_around(&mut entries, Rect::new(1, 14, 15, 19))?;
+    Ok(entries)
+}
+
 /// The wire over a wall.
 fn wire_over(alloc: Global) -> Result<Conn, NoMemory> {
     let mut legs = List::new(alloc);
@@ -275,11 +290,11 @@ fn routed(
 {
     assert!(rt; is_regular_conn(board, &conn));
     assert!(rt; are_regular_entries(board, entries.as_slice()));
-    let mut made = List::new(alloc);
     let cert = Cert {
         bound: Some(conn.cost),
         entries,
     };
+    let mut made = List::new(alloc);
     made.push(Made1 {
         number: 1,
         conn,
@@ -299,21 +314,13 @@ const OVER: &str =
 const OVER_AND_WHY: &str =
     "route a made 1 of 1\nconn 1 40 3\nat 6 11 top\nto 6 17 top\nto 34 17 top\nto 34 11 top\ncert 40 8\nsrc 0 top 2 7 8 13 4 9 6 11 0\nstep 0 top 9 7 15 13 9 9 9 11 3\nstep 0 top 1 1 15 6 4 6 6 6 3\nstep 0 top 1 14 15 16 4 14 6 14 3\nstep 0 top 1 7 1 13 1 9 1 11 3\nstep 3 top 1 17 39 19 4 17 6 17 6\nstep 5 top 25 14 39 16 25 16 25 16 26\nstep 6 top 32 7 38 13 32 13 32 13 36\n";
 
-fn expect_route(rt: &impl Abort, alloc: Global) -> Result<(), NoMemory> {
-    let board = board_of_two_nets(rt, alloc)?;
-    let mut entries = List::new(alloc);
-    push_near(&mut entries)?;
-    push_around(&mut entries, Rect::new(1, 14, 15, 16))?;
-    push_over(&mut entries)?;
-    let reply = Reply::Route(routed(rt, alloc, &board, wire_over(alloc)?, entries)?);
-    expect_text(rt, alloc, &board, &reply, false, OVER_AND_WHY)?;
-    expect_text(rt, alloc, &board, &reply, true, OVER)
-}
-
-#[test]
-fn a_route_is_printed_with_its_certificate(rt: HostRuntime) -> Result<(), test::Fail> {
-    expect_route(&rt, rt.alloc())?;
-    Ok(())
+fn expect_route(rt: &impl Abort, alloc: Global, board: &Board) -> Result<(), NoMemory>
+    requires { 1 < length board.now.parts.net_names }
+{
+    let routed = routed(rt, alloc, board, wire_over(alloc)?, entries_over(alloc)?)?;
+    let reply = Reply::Route(routed);
+    expect_text(rt, alloc, board, &reply, false, OVER_AND_WHY)?;
+    expect_text(rt, alloc, board, &reply, true, OVER)
 }
 
 const NONE: &str = "route a made 0 of 1\nnone 1\n";
@@ -321,12 +328,11 @@ const NONE: &str = "route a made 0 of 1\nnone 1\n";
 const NONE_AND_WHY: &str =
     "route a made 0 of 1\nnone 1\ncert - 5\nsrc 0 top 2 7 8 13 4 9 6 11 0\nstep 0 top 9 7 15 13 9 9 9 11 3\nstep 0 top 1 1 15 6 4 6 6 6 3\nstep 0 top 1 14 15 19 4 14 6 14 3\nstep 0 top 1 7 1 13 1 9 1 11 3\n";
 
-fn expect_none(rt: &impl Abort, alloc: Global) -> Result<(), NoMemory> {
-    let board = board_of_two_nets(rt, alloc)?;
-    let mut entries = List::new(alloc);
-    push_near(&mut entries)?;
-    push_around(&mut entries, Rect::new(1, 14, 15, 19))?;
-    assert!(rt; are_regular_entries(&board, entries.as_slice()));
+fn expect_none(rt: &impl Abort, alloc: Global, board: &Board) -> Result<(), NoMemory>
+    requires { 1 < length board.now.parts.net_names }
+{
+    let entries = entries_before_a_wall(alloc)?;
+    assert!(rt; are_regular_entries(board, entries.as_slice()));
     let cert = Cert {
         bound: None,
         entries,
@@ -337,14 +343,8 @@ fn expect_none(rt: &impl Abort, alloc: Global) -> Result<(), NoMemory> {
         made: List::new(alloc),
         none: Some(Fail { number: 1, cert }),
     });
-    expect_text(rt, alloc, &board, &reply, false, NONE_AND_WHY)?;
-    expect_text(rt, alloc, &board, &reply, true, NONE)
-}
-
-#[test]
-fn no_route_is_printed_with_its_certificate(rt: HostRuntime) -> Result<(), test::Fail> {
-    expect_none(&rt, rt.alloc())?;
-    Ok(())
+    expect_text(rt, alloc, board, &reply, false, NONE_AND_WHY)?;
+    expect_text(rt, alloc, board, &reply, true, NONE)
 }
 
 /// A via from the one layer to the other.
@@ -366,46 +366,56 @@ fn via_down(alloc: Global) -> Result<Conn, NoMemory> {
     })
 }
 
-const DOWN: &str =
-    "all 1\nroute a made 1 of 1\nconn 1 5 1\nat 17 10 top\nvia v 17 10 bot\ncert 5 2\nsrc 0 top 1 1 39 19 17 10 17 10 0\nvia 0 v bot 1 1 39 19 17 10 17 10 5\n";
-
-fn expect_all(rt: &impl Abort, alloc: Global) -> Result<(), NoMemory> {
-    let board = board_of_two_nets(rt, alloc)?;
+fn entries_down(alloc: Global) -> Result<List<Entry>, NoMemory> {
     let (whole, spot) = (Rect::new(1, 1, 39, 19), Rect::new(17, 10, 17, 10));
     let source = entry(TOP, Origin::Source(0), whole, spot, 0);
     let down = entry(BOT, Origin::Via(0, KindId(0)), whole, spot, 5);
-    let entries = List::from_slice(alloc, &[source, down])?;
-    let mut nets = List::new(alloc);
-    nets.push(routed(rt, alloc, &board, via_down(alloc)?, entries)?)?;
-    expect_text(rt, alloc, &board, &Reply::All(nets), false, DOWN)
+    List::from_slice(alloc, &[source, down])
 }
 
-fn expect_show(rt: &impl Abort, alloc: Global) -> Result<(), NoMemory> {
-    let board = board_of_two_nets(rt, alloc)?;
+const DOWN: &str =
+    "all 1\nroute a made 1 of 1\nconn 1 5 1\nat 17 10 top\nvia v 17 10 bot\ncert 5 2\nsrc 0 top 1 1 39 19 17 10 17 10 0\nvia 0 v bot 1 1 39 19 17 10 17 10 5\n";
+
+fn expect_all(rt: &impl Abort, alloc: Global, board: &Board) -> Result<(), NoMemory>
+    requires { 1 < length board.now.parts.net_names }
+{
+    let routed = routed(rt, alloc, board, via_down(alloc)?, entries_down(alloc)?)?;
+    let mut nets = List::new(alloc);
+    nets.push(routed)?;
+    expect_text(rt, alloc, board, &Reply::All(nets), false, DOWN)
+}
+
+fn expect_show(rt: &impl Abort, alloc: Global, board: &Board) -> Result<(), NoMemory>
+    requires { 1 < length board.now.parts.net_names }
+{
     let conn = via_down(alloc)?;
-    assert!(rt; is_regular_conn(&board, &conn));
+    assert!(rt; is_regular_conn(board, &conn));
     assert!(rt; board.pin_count(NetId(1)) == 2);
     let mut items = List::new(alloc);
     items.push(Item { number: 1, conn })?;
     let reply = Reply::Show(NetId(1), 1, items);
     let text = "show b 1 of 1\nconn 1 5 1\nat 17 10 top\nvia v 17 10 bot\n";
-    expect_text(rt, alloc, &board, &reply, false, text)
+    expect_text(rt, alloc, board, &reply, false, text)
 }
 
-fn expect_rip(rt: &impl Abort, alloc: Global) -> Result<(), NoMemory> {
-    let board = board_of_two_nets(rt, alloc)?;
-    expect_text(
-        rt,
-        alloc,
-        &board,
-        &Reply::Rip(NetId(0), 1),
-        true,
-        "rip a removed 1\n",
-    )
+fn expect_violation(
+    rt: &impl Abort,
+    alloc: Global,
+    board: &Board,
+    violation: Violation,
+    text: &str,
+) -> Result<(), NoMemory>
+    requires { IsRegularViolation board.now.parts violation }
+{
+    let mut found = List::new(alloc);
+    found.push(violation)?;
+    expect_text(rt, alloc, board, &Reply::Rules(found), false, text)
 }
 
-fn expect_rules(rt: &impl Abort, alloc: Global) -> Result<(), NoMemory> {
-    let board = board_of_two_nets(rt, alloc)?;
+fn expect_close(rt: &impl Abort, alloc: Global, board: &Board) -> Result<(), NoMemory>
+    requires layer { 0 < length board.now.parts.layers }
+    requires nets { 1 < length board.now.parts.net_names }
+{
     let first = Owned {
         owner: Some(NetId(0)),
         area: Rect::new(19, 9, 19, 9),
@@ -414,22 +424,19 @@ fn expect_rules(rt: &impl Abort, alloc: Global) -> Result<(), NoMemory> {
         owner: Some(NetId(1)),
         area: Rect::new(20, 9, 20, 9),
     };
-    let mut found = List::new(alloc);
-    found.push(Violation::Close(TOP, first, second))?;
     let text = "rules 1\nclose top net a 19 9 19 9 net b 20 9 20 9\n";
-    expect_text(rt, alloc, &board, &Reply::Rules(found), false, text)
+    expect_violation(rt, alloc, board, Violation::Close(TOP, first, second), text)
 }
 
-fn expect_outline(rt: &impl Abort, alloc: Global) -> Result<(), NoMemory> {
-    let board = board_of_two_nets(rt, alloc)?;
+fn expect_outline(rt: &impl Abort, alloc: Global, board: &Board) -> Result<(), NoMemory>
+    requires { 0 < length board.now.parts.layers }
+{
     let wall = Owned {
         owner: None,
         area: Rect::new(18, 0, 22, 14),
     };
-    let mut found = List::new(alloc);
-    found.push(Violation::Outline(TOP, wall))?;
     let text = "rules 1\noutline top block 18 0 22 14\n";
-    expect_text(rt, alloc, &board, &Reply::Rules(found), false, text)
+    expect_violation(rt, alloc, board, Violation::Outline(TOP, wall), text)
 }
 
 fn expect_strip(
@@ -450,38 +457,59 @@ fn expect_strip(
     expect_text(rt, alloc, board, &reply, false, text)
 }
 
-fn expect_strips(rt: &impl Abort, alloc: Global) -> Result<(), NoMemory> {
-    let board = board_of_two_nets(rt, alloc)?;
+fn expect_strips(rt: &impl Abort, alloc: Global, board: &Board) -> Result<(), NoMemory>
+    requires layer { 0 < length board.now.parts.layers }
+    requires class { 0 < length board.now.parts.classes }
+    requires nets { 1 < length board.now.parts.net_names }
+{
     expect_strip(
         rt,
         alloc,
-        &board,
+        board,
         Label::Many,
         "strips top sig 1\nmany 2 7 8 13\n",
     )?;
     expect_strip(
         rt,
         alloc,
-        &board,
+        board,
         Label::Free,
         "strips top sig 1\nfree 2 7 8 13\n",
     )?;
     expect_strip(
         rt,
         alloc,
-        &board,
+        board,
         Label::One(NetId(0)),
         "strips top sig 1\none a 2 7 8 13\n",
     )
 }
 
+fn expect_each(rt: &impl Abort, alloc: Global, board: &Board) -> Result<(), NoMemory>
+    requires layer { 0 < length board.now.parts.layers }
+    requires class { 0 < length board.now.parts.classes }
+    requires nets { 1 < length board.now.parts.net_names }
+{
+    expect_route(rt, alloc, board)?;
+    expect_none(rt, alloc, board)?;
+    expect_all(rt, alloc, board)?;
+    expect_show(rt, alloc, board)?;
+    expect_text(
+        rt,
+        alloc,
+        board,
+        &Reply::Rip(NetId(0), 1),
+        true,
+        "rip a removed 1\n",
+    )?;
+    expect_close(rt, alloc, board)?;
+    expect_outline(rt, alloc, board)?;
+    expect_strips(rt, alloc, board)
+}
+
 #[test]
-fn other_replies_are_printed(rt: HostRuntime) -> Result<(), test::Fail> {
-    expect_all(&rt, rt.alloc())?;
-    expect_show(&rt, rt.alloc())?;
-    expect_rip(&rt, rt.alloc())?;
-    expect_rules(&rt, rt.alloc())?;
-    expect_outline(&rt, rt.alloc())?;
-    expect_strips(&rt, rt.alloc())?;
+fn each_reply_is_printed_line_by_line(rt: HostRuntime) -> Result<(), test::Fail> {
+    let board = board_of_two_nets(&rt, rt.alloc())?;
+    expect_each(&rt, rt.alloc(), &board)?;
     Ok(())
 }
