@@ -22,7 +22,7 @@ module _ (rule : PlaneRule) (s : Shape) where
   with_miss p a n = cond-false (does_hit rule p s) _ _ (false_from_ne_true _ (λ e. n ((Decides-does_hit rule p s).0 e)))
 
   -- what is so where the shape hits, and where it does not
-  by_hit : (p : Point) (Q : Type 0) → (Hits rule p s → Q) → ((Hits rule p s → ⊥) → Q) → Q
+  pub by_hit : (p : Point) (Q : Type 0) → (Hits rule p s → Q) → ((Hits rule p s → ⊥) → Q) → Q
   by_hit p Q yes' no' =
       let test : (b : Bool) → does_hit rule p s ≡ b → Q = elim [
         | true ↦ λ e. yes' ((Decides-does_hit rule p s).0 e)

@@ -40,7 +40,7 @@ module _ {R A : Type 0} (planes_of : R → List A) (draw : A → Drawing) (b : B
       let shown = h n row e m plane k in
       record { region = shown.region; canonical = shown.canonical }
 
-  all_in : (rows : List R) → HaveAllClasses planes_of b rows → (n : ℕ) (row : R) → slice_get rows n ≡ Some row → length (planes_of row) ≡ length b.classes
+  pub all_in : (rows : List R) → HaveAllClasses planes_of b rows → (n : ℕ) (row : R) → slice_get rows n ≡ Some row → length (planes_of row) ≡ length b.classes
   all_in rows all n row e = ap (λ (r : R). length (planes_of r)) (sym (get_or_from_slice_get rows n row row e)) ∙ all n row (slice_get_within rows n row e)
 
   board_drawn : (rows : List R) → AreBoardRows planes_of draw b rows → AreBoardRows (λ (row : List Drawing). row) (λ (d : Drawing). d) b (drawn rows)
