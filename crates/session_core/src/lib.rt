@@ -3,6 +3,12 @@
 //! All coordinates are whole micrometres.
 #![tactic(auto)]
 
+mod answers;
+mod attempts;
+mod looks;
+mod rips;
+mod routes;
 mod sessions;
+mod turns;
 
 pub use sessions::Session;

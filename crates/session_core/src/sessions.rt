@@ -3,6 +3,7 @@ ghost use Rattle.board_model.specs.Commands.{IsCommandOf};
 ghost use Rattle.route_law.specs.Regular.{IsRegular};
 ghost use Rattle.route_law.specs.Steps.{IsStep, nothing_made};
 
+use crate::answers::{Answered, answer};
 use board_model::{Board, Command, Made};
 use geo_rect::NoMemory;
 use plane_core::Plane;
@@ -35,7 +36,13 @@ impl<P: Plane> Session<P> {
         ensures board { IfOk result (λ s. s.parts ≡ board.parts) }
         ensures nothing { IfOk result (λ s. s.lists ≡ nothing_made board.parts) }
     {
-        Err(NoMemory)
+        let made = Made::none(alloc, &board)?;
+        let planes = PlaneSet::build(alloc, &board)?;
+        Ok(Session {
+            board,
+            made,
+            planes,
+        })
     }
 
     /// The board.
@@ -60,6 +67,17 @@ impl<P: Plane> Session<P> {
         ensures board { IfOk result (λ a. a.0.parts ≡ self.parts) }
         ensures regular { IfOk result (λ a. IsRegular self.parts a.1) }
     {
-        Err(NoMemory)
+        let Session {
+            board,
+            mut made,
+            planes,
+        } = self;
+        let Answered { planes, reply } = answer(alloc, &board, &mut made, planes, c)?;
+        let session = Session {
+            board,
+            made,
+            planes,
+        };
+        Ok((session, reply))
     }
 }

@@ -1,4 +1,1 @@
-pub mod Broken
-pub mod Keeping
-pub mod Regular
 pub mod Shapes
