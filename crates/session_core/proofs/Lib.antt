@@ -1,1 +1,4 @@
+pub mod Answering
 pub mod Laws
+pub mod OnBoard
+pub mod Turning
