@@ -1,7 +1,8 @@
 -- What the search and the way back give is a net's next connection, or that it has none.
-use Rattle.std.proofs.Common.{◌≡◌, ◌<◌, ◌≤◌, ℕ, ◌+◌, ◌-◌, List, [], ◌∷◌, Some, None, length, map, All, sym, ◌∙◌, ap, subst, refl, arith}
+use Rattle.std.proofs.Common.{◌≡◌, ◌<◌, ◌≤◌, ℕ, ◌+◌, ◌-◌, List, [], ◌∷◌, Some, None, inl, inr, length, map, All, sym, ◌∙◌, ap, subst, refl, arith}
 use Rattle.std.specs.Prelude.{slice_get, Option}
 use Rattle.std.specs.List.{range_with_len}
+use Rattle.std.proofs.lemmas.Option.{slice_get_cases}
 use Rattle.std.proofs.lemmas.List.{length-map}
 use Rattle.std.proofs.lemmas.List.Elements.{All-get_or}
 use Rattle.std.proofs.lemmas.List.FromFn.{length-range_with_len}
@@ -44,7 +45,13 @@ pin_there b p h = let some = layers_there p.first p.last h.order in omega (arith
 
 -- a pin that the net has gives a box to end in
 pub targets_there : (b : BoardParts) (n : NetId) (j : ℕ) → IsBoard b → j < length (pins_of b n) → 0 < length (target_boxes b n j)
-targets_there b n j board l = ?
+targets_there b n j board l = elim ((slice_get_cases (pins_of b n) j).1) [
+  | inl h ↦ (
+      let is : IsPin b h.0 = subst (IsPin b) h.3 (All-get_or (IsPin b) (pins_of b n) j h.0 l (pins_within b n board)) in
+      let some : 0 < length (pin_boxes h.0) = pin_there b h.0 is in
+      omega (arith, ap (λ (p : Option Pin). length (boxes_of_some p)) h.2))
+  | inr h ↦ (let past = h.0 in absurd (omega arith))
+]
 
 -- the way that is traced back from a right answer is a connection than which none is cheaper
 pub joined_on : (b : BoardParts) (g : Ground) (sources targets : List Spot) (n cost entry : ℕ) (v : Node) (cert : Cert) (conn : Conn)

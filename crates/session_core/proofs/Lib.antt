@@ -1,4 +1,4 @@
 pub mod Answering
-pub mod Laws
+pub mod Listing
 pub mod OnBoard
 pub mod Turning

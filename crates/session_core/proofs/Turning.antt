@@ -1,7 +1,9 @@
 -- A session goes on when a connection is made, and when a net's connections are removed.
-use Rattle.std.proofs.Common.{◌≡◌, ◌<◌, ◌≤◌, ℕ, ◌+◌, ◌-◌, ◌↔◌, ◌⊎◌, inl, inr, List, [], ◌∷◌, ◌++◌, Some, length, map, All, Contains, sym, ◌∙◌, ap, subst, refl, arith}
+use Rattle.std.proofs.Common.{◌≡◌, ◌<◌, ◌≤◌, ℕ, ◌+◌, ◌-◌, ◌↔◌, ◌⊎◌, inl, inr, List, [], ◌∷◌, ◌++◌, Some, length, map, All, Contains, Option, None, is_some, false, sym, ◌∙◌, ap, subst, refl, rules, arith}
 use Rattle.std.specs.Prelude.{IsSome}
 use Rattle.std.specs.List.{flat_map}
+use Rattle.std.proofs.lemmas.Bool.{false≢true}
+use Rattle.std.proofs.lemmas.List.{get_or-set_same}
 use Rattle.std.proofs.lemmas.List.Elements.{All-nil, All-cons, All-append, All-map, All-weaker, All-get_or, All-set, Contains-append_left, Contains-append_right, Contains-append_cases}
 use Rattle.geo_rect.specs.declared.ids.LayerId.{LayerId}
 use Rattle.geo_rect.specs.declared.ids.NetId.{NetId}
@@ -14,18 +16,24 @@ use Rattle.board_model.specs.declared.shapes.Shape.{Shape}
 use Rattle.board_model.specs.Known.{IsKnown}
 use Rattle.board_model.specs.Made.{conns_of, with_conn, without_conns}
 use Rattle.board_model.specs.Rules.{IsBoard}
-use Rattle.board_model.specs.Shapes.{net_shape, leg_shapes, legs_shapes, conn_shapes, state_shapes, end_of}
+use Rattle.board_model.specs.Shapes.{net_shape, leg_shapes, legs_shapes, conn_shapes, board_shapes, state_shapes, end_of}
 use Rattle.board_model.specs.WellFormed.{IsWellFormed, AreWellFormed}
 use Rattle.board_model.proofs.MadeShapes.{conn_known, state_known}
-use Rattle.board_model.proofs.StateShapes.{All-flat_map}
+use Rattle.board_model.proofs.StateShapes.{All-flat_map, only_the_board}
 use Rattle.plane_set.specs.Standing.{PlaneTable, StandsFor}
 use Rattle.plane_set.proofs.Standing.{stands_for_members}
 use Rattle.route_law.specs.declared.replies.Made1.{Made1}
+use Rattle.route_law.specs.declared.replies.Fail.{Fail}
 use Rattle.route_law.specs.Kept.{IsState}
-use Rattle.route_law.specs.Routing.{IsNextConnection, conns_needed}
+use Rattle.route_law.specs.Routing.{IsNextConnection, AreMadeInTurn, conns_needed, next_number}
+use Rattle.route_law.specs.Steps.{nothing_made}
+use Rattle.route_law.proofs.Beginning.{nothing-state}
+use Rattle.route_law.proofs.Running.{made-next}
 use Rattle.step_laws.proofs.Shapes.{shapes_with_conn, shapes_without_conns}
 use Rattle.session_core.specs.Sessions.{IsSitting, IsWithin}
-use Rattle.session_core.proofs.Laws.{next_state, removed_state}
+use Rattle.step_laws.proofs.Keeping.{next_state, removed_state}
+use Rattle.session_core.specs.Attempts.{IsOneMore, IsTurn}
+use Rattle.session_core.proofs.Listing.{length_pushed}
 use Rattle.session_core.proofs.OnBoard.{conn_within}
 
 -- a list of two parts has the items of both
@@ -35,6 +43,15 @@ parts xs ys s = (Contains-append_cases xs ys s, back)
     back : Contains xs s ⊎ Contains ys s → Contains (xs ++ ys) s
     back (inl h) = Contains-append_left xs ys s h
     back (inr h) = Contains-append_right xs ys s h
+
+-- a session in which nothing is made
+pub sitting_nothing : (b : BoardParts) (lists : List (List Conn)) (set : PlaneTable) → IsBoard b → lists ≡ nothing_made b → All (λ (conns : List Conn). conns ≡ []) lists → StandsFor b (board_shapes b) set → IsSitting b lists set
+sitting_nothing b lists set board e none stands = record {
+  board = board;
+  state = subst (λ (ls : List (List Conn)). IsState b ls) (sym e) (nothing-state b);
+  within = All-weaker (λ (conns : List Conn). conns ≡ []) (All (IsWithin b)) (λ conns empty. subst (λ (cs : List Conn). All (IsWithin b) cs) (sym empty) (All-nil (IsWithin b))) lists none;
+  stands = subst (λ (ss : List Shape). StandsFor b ss set) (sym (only_the_board b lists none)) stands;
+}
 
 module _ (b : BoardParts) (lists : List (List Conn)) (n : NetId) (set : PlaneTable) (h : IsSitting b lists set) (known : n.0 < length b.net_names) where
   pub net_listed : n.0 < length lists
@@ -89,8 +106,8 @@ module _ (b : BoardParts) (lists : List (List Conn)) (n : NetId) (set : PlaneTab
 
 module _ (b : BoardParts) (n : NetId) where
   leg_owned : (v : Node) (leg : Leg) → All (λ (s : Shape). IsSome s.owner) (leg_shapes b n v leg)
-  leg_owned v (Wire w) = All-cons (λ (s : Shape). IsSome s.owner) _ [] tt (All-nil (λ (s : Shape). IsSome s.owner))
-  leg_owned v (Via k w) = ?
+  leg_owned v (Wire w) = All-cons (λ (s : Shape). IsSome s.owner) _ [] (search rules) (All-nil (λ (s : Shape). IsSome s.owner))
+  leg_owned v (Via k w) = All-map (λ (s : Shape). IsSome s.owner) _ _ (λ i d l. search rules)
 
   legs_owned : (v : Node) (legs : List Leg) → All (λ (s : Shape). IsSome s.owner) (legs_shapes b n v legs)
   legs_owned v [] = All-nil (λ (s : Shape). IsSome s.owner)
@@ -100,3 +117,24 @@ module _ (b : BoardParts) (n : NetId) where
   pub conns_owned : (conns : List Conn) → All (λ (s : Shape). IsSome s.owner) (flat_map (conn_shapes b n) conns)
   conns_owned [] = All-nil (λ (s : Shape). IsSome s.owner)
   conns_owned (c ∷ cs) = All-append (λ (s : Shape). IsSome s.owner) (conn_shapes b n c) (flat_map (conn_shapes b n) cs) (legs_owned c.start c.legs) (conns_owned cs)
+
+-- where none is named that has no route, the net's next connection was made
+pub turn_made : (b : BoardParts) (n : NetId) (old : List (List Conn)) (before : List Made1) (f : Option Fail) (new : List (List Conn)) (after : List Made1) → is_some f ≡ false → IsTurn b n old before f new after → IsOneMore b n old before new after
+turn_made b n old before None new after e h = h
+turn_made b n old before (Some f) new after e h = absurd (false≢true (sym e))
+
+module _ (b : BoardParts) (n : NetId) (mid : List (List Conn)) (before : List Made1) (new : List (List Conn)) (after : List Made1) (h : IsOneMore b n mid before new after) where
+  pub made_on : (old : List (List Conn)) → AreMadeInTurn b old n before mid → AreMadeInTurn b old n after new
+  made_on old turns =
+      let more : AreMadeInTurn b old n (before ++ h.made ∷ []) (with_conn mid n h.made.conn) = made-next b n old mid before h.made turns h.next in
+      subst (λ (ms : List Made1). AreMadeInTurn b old n ms new) (sym h.listed)
+      (subst (λ (ls : List (List Conn)). AreMadeInTurn b old n (before ++ h.made ∷ []) ls) (sym h.appended) more)
+
+  pub number_on : n.0 < length mid → next_number new n ≡ next_number mid n + 1
+  number_on l =
+      let own : conns_of (with_conn mid n h.made.conn) n ≡ conns_of mid n ++ h.made.conn ∷ [] = get_or-set_same mid n.0 (conns_of mid n ++ h.made.conn ∷ []) [] l in
+      let same : length (conns_of new n) ≡ length (conns_of (with_conn mid n h.made.conn) n) = ap (λ (ls : List (List Conn)). length (conns_of ls n)) h.appended in
+      omega (arith, ap (λ (cs : List Conn). length cs) own, length_pushed (conns_of mid n) h.made.conn _ own)
+
+  pub count_on : length after ≡ length before + 1
+  count_on = length_pushed before h.made after h.listed
