@@ -1,5 +1,5 @@
 -- The lists of a board, put together, are those of the draft.
-use Rattle.std.proofs.Common.{◌≡◌, ℤ, pos, List, ap, sym, ◌∙◌}
+use Rattle.std.proofs.Common.{◌≡◌, ℤ, pos, ap}
 use Rattle.board_model.specs.declared.parts.BoardParts.{BoardParts}
 use Rattle.board_reader.specs.declared.drafts.Draft.{Draft}
 use Rattle.board_reader.specs.declared.finishing.NameLists.{NameLists}

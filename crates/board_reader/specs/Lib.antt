@@ -12,4 +12,3 @@ pub mod Numbers
 pub mod Passing
 pub mod Reading
 pub mod Tables
-pub mod Built

@@ -37,7 +37,25 @@ const CASES: &str = "4 4 8 8|
 3 3 3 6|layer top;
 7 7 7 3|pin a 4 9 -6 11 top top;
 10 10 10 7|net b sig;
-10 10 10 2|route a;
+10 10 0 0|route a;all;rip a;show a;
+10 10 10 5|route z;
+10 10 10 5|rip z;
+10 10 10 5|show z;
+10 10 10 5|route sig;
+10 10 10 2|route;
+10 10 10 2|route a a;
+10 10 10 2|all a;
+10 10 10 2|rip;
+10 10 10 2|rip a a;
+10 10 10 2|show;
+10 10 10 2|show a a;
+10 10 10 2|Route a;
+6 6 6 7|route a;
+6 6 6 7|all;
+6 6 6 7|rip z;
+6 6 6 7|show a;
+6 6 6 2|show;
+10 10 11 5|all;show b;
 10 10 0 0|
 5 5 0 0|# any \u{e9} bytes;; \t;
 5 5 5 1|\r# not at the start;
@@ -82,7 +100,8 @@ const CASES: &str = "4 4 8 8|
 9 10 9 9|
 9 10 0 0|end
 9 10 0 0|end;
-9 10 10 2|end;route a;
+9 10 0 0|end;route a;
+9 10 10 2|end;replies;
 10 10 0 0|strips top sig;rules;strips top sig;
 5 5 5 7|strips top sig;
 5 5 5 7|strips low power;
@@ -174,9 +193,10 @@ fn holds(rt: &impl Abort, input: &Input, name: &str, sides: (i32, i32), numbers:
 
 #[test]
 fn reads_a_board(rt: HostRuntime) -> Result<(), Fail> {
-    let bytes = changed(rt.alloc(), 10, 10, "rules;strips top sig;")?;
+    let text = "rules;strips top sig;route a;all;rip a;show a;";
+    let bytes = changed(rt.alloc(), 10, 10, text)?;
     match read_input(rt.alloc(), &bytes) {
-        Ok(input) => holds(&rt, &input, "demo", (40, 20), [1, 0, 1, 2, 1, 2]),
+        Ok(input) => holds(&rt, &input, "demo", (40, 20), [1, 0, 1, 2, 1, 6]),
         Err(_) => return Err("the text is read".into()),
     }
     Ok(())
