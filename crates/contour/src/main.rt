@@ -11,11 +11,9 @@ mod inputs;
 mod lines;
 #[cfg(test)]
 mod reader_tests;
-mod replies;
 mod requests;
 #[cfg(test)]
 mod tests;
-mod texts;
 
 use crate::calls::contour;
 use crate::endings::Status;

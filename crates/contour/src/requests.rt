@@ -4,8 +4,9 @@ ghost use Rattle.contour.specs.Requests.{words_of, IsNoRequest};
 /// What the program is asked to do.
 #[derive(Clone, Copy, Debug, PartialEq, Eq)]
 pub enum Request {
-    /// Read a board text and write the reply to each of its commands.
-    Run,
+    /// Read a board text and write the reply to each of its commands; `quiet` leaves the certificates
+    /// out.
+    Run { quiet: bool },
 }
 
 /// The request that these words make, the words of the command line without the program's own name.
@@ -15,7 +16,8 @@ pub fn request_of(words: &[String]) -> Option<Request>
     ensures none { IfNone result (IsNoRequest (map string_bytes words.now)) }
 {
     match words {
-        [word] if word.as_str() == "run" => Some(Request::Run),
+        [word] if word.as_str() == "run" => Some(Request::Run { quiet: false }),
+        [word, flag] if word.as_str() == "run" => quiet_run(flag.as_str()),
         _ => None,
     }
 }
