@@ -1,3 +1,3 @@
 pub mod Ended
+pub mod Pending
 pub mod Replied
-pub mod Strips

@@ -1,4 +1,4 @@
-ghost use Rattle.std.specs.Prelude.{◌≡◌, map, string_bytes, IfSome, IfNone};
+ghost use Rattle.std.specs.Prelude.{◌≡◌, ◌↔◌, IsTrue, codes, map, string_bytes, IfSome, IfNone};
 ghost use Rattle.contour.specs.Requests.{words_of, IsNoRequest};
 
 /// What the program is asked to do.
@@ -9,6 +9,16 @@ pub enum Request {
     Run { quiet: bool },
 }
 
+/// Whether the two words are `run` and `--quiet`.
+fn are_quiet_run(word: &str, flag: &str) -> bool
+    ensures { IsTrue result ↔ ((word.now ≡ codes "run") × (flag.now ≡ codes "--quiet")) }
+{
+    if word != "run" {
+        return false;
+    }
+    flag == "--quiet"
+}
+
 /// The request that these words make, the words of the command line without the program's own name.
 /// `None` where they make none. It takes no memory.
 pub fn request_of(words: &[String]) -> Option<Request>
@@ -17,7 +27,9 @@ pub fn request_of(words: &[String]) -> Option<Request>
 {
     match words {
         [word] if word.as_str() == "run" => Some(Request::Run { quiet: false }),
-        [word, flag] if word.as_str() == "run" => quiet_run(flag.as_str()),
+        [word, flag] if are_quiet_run(word.as_str(), flag.as_str()) => {
+            Some(Request::Run { quiet: true })
+        }
         _ => None,
     }
 }
