@@ -15,7 +15,7 @@ use Rattle.route_law.specs.Regular.{IsRegular}
 use Rattle.route_law.specs.Steps.{IsRunFrom, nothing_made}
 use Rattle.route_law.proofs.Beginning.{nothing-state}
 use Rattle.route_law.proofs.Running.{run-next}
-use Rattle.contour.proofs.Pending.{run_state}
+use Rattle.step_laws.proofs.Keeping.{run_state}
 use Rattle.reply_text.specs.Texts.{reply_text, replies_text}
 use Rattle.contour.specs.Answers.{KeepsTheRules, AreReplies, AnswersAll, AnswersFirst, IsCutShort}
 use Rattle.contour.specs.Sessions.{IsUnderway, AnswersOne, AnswersPart}

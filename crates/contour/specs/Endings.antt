@@ -1,6 +1,6 @@
 -- How a call of the program ends: its status, its line, and what shows each ending.
 use Rattle.std.specs.Prelude.{◌≡◌, ℕ, Bool, ◌++◌, List, Option, codes, decimal}
-use Rattle.io_edge.specs.Streams.{Rose}
+use Rattle.io_edge.specs.Streams.{AppendsPart, Rose}
 use Rattle.io_edge.specs.declared.reading.ReadEnd.{ReadEnd}
 use Rattle.io_edge.specs.declared.reading.ReadEnd.TheVariants as read
 use Rattle.board_model.specs.declared.parts.BoardParts.{BoardParts}
@@ -51,6 +51,15 @@ EndsReading left before after (Refused r) = IfTold left (IsRefusedAs r)
 EndsReading left before after ReadFault = Rose before after
 EndsReading left before after WriteFault = ⊥
 EndsReading left before after NoMemory = Unit {0}
+
+-- what shows that the writing of a text ended so, from what the sink held and its counts of faults before and after
+abbrev pub EndsSending : List ℕ → Option (List ℕ) → Option (List ℕ) → ℕ → ℕ → Ending → Type 0
+EndsSending text held holds before after BadWords = ⊥
+EndsSending text held holds before after TooLong = ⊥
+EndsSending text held holds before after (Refused r) = ⊥
+EndsSending text held holds before after ReadFault = ⊥
+EndsSending text held holds before after WriteFault = Rose before after × AppendsPart held holds text
+EndsSending text held holds before after NoMemory = holds ≡ held
 
 -- what shows that one reply ended so, from what the sink held and its counts of faults before and after
 abbrev pub EndsAnswer : BoardParts → Bool → List (List Conn) → Command → Option (List ℕ) → Option (List ℕ) → ℕ → ℕ → Ending → Type 0

@@ -1,8 +1,11 @@
 //! The replies to the commands of a board text, each written before the next command is begun.
-ghost use Rattle.std.specs.Prelude.{◌≡◌, ◌≤◌, All, OnOk, IfOk, IfErr};
+ghost use Rattle.std.specs.Prelude.{◌≡◌, ◌≤◌, ⊤, All, OnOk, IfOk, IfErr};
+ghost use Rattle.io_edge.specs.Streams.{Appends};
 ghost use Rattle.board_model.specs.Commands.{IsCommandOf};
+ghost use Rattle.route_law.specs.Regular.{IsRegular};
+ghost use Rattle.reply_text.specs.Texts.{reply_text};
 ghost use Rattle.contour.specs.Answers.{AnswersAll};
-ghost use Rattle.contour.specs.Endings.{EndsAnswer, EndsAnswers};
+ghost use Rattle.contour.specs.Endings.{EndsAnswer, EndsAnswers, EndsSending};
 ghost use Rattle.contour.specs.Sessions.{AnswersOne};
 
 use crate::endings::Ending;
@@ -10,8 +13,39 @@ use board_model::{Board, Command};
 use io_edge::{Sink, write_all};
 use plane_core::Plane;
 use reply_text::print;
+use route_law::Reply;
 use session_core::Session;
 use std::alloc::Global;
+
+/// Writes the text of a reply.
+fn send<K: Sink>(
+    alloc: Global,
+    board: &Board,
+    reply: &Reply,
+    quiet: bool,
+    out: &mut K,
+) -> Result<(), Ending>
+    requires { IsRegular board.now.parts reply.now }
+    ensures ok { OnOk result (Appends (K.written out.old) (K.written out.new) (reply_text board.now.parts quiet reply.now)) }
+    ensures err { IfErr result (EndsSending (reply_text board.now.parts quiet reply.now) (K.written out.old) (K.written out.new) (K.faults out.old) (K.faults out.new)) }
+    ensures never_falls { K.faults out.old ≤ K.faults out.new }
+    ensures setup { K.setup out.new ≡ K.setup out.old }
+{
+    let text = print(alloc, board, reply, quiet)?;
+    write_all(out, text.as_slice())?;
+    Ok(())
+}
+
+/// The session, if all went well until now.
+fn go_on<P: Plane>(session: Session<P>, sent: Result<(), Ending>) -> Result<Session<P>, Ending>
+    ensures ok { IfOk result (λ s. (s ≡ session) × OnOk sent ⊤) }
+    ensures err { IfErr result (λ e. IfErr sent (λ f. f ≡ e)) }
+{
+    match sent {
+        Ok(()) => Ok(session),
+        Err(ending) => Err(ending),
+    }
+}
 
 /// Makes the reply to one command and writes it. The session goes on from there.
 fn answer<P: Plane, K: Sink>(
@@ -29,9 +63,8 @@ fn answer<P: Plane, K: Sink>(
     ensures setup { K.setup out.new ≡ K.setup out.old }
 {
     let (next, reply) = session.apply(alloc, &command)?;
-    let text = print(alloc, next.board(), &reply, quiet)?;
-    write_all(out, text.as_slice())?;
-    Ok(next)
+    let sent = send(alloc, next.board(), &reply, quiet, out);
+    go_on(next, sent)
 }
 
 /// Makes the reply to each command, from a session on the board in which nothing is made, and writes
