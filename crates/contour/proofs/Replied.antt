@@ -1,9 +1,9 @@
 -- Replies one after another.
-use Rattle.std.proofs.Common.{ℕ, Bool, false, ◌≡◌, ◌+◌, ◌<◌, List, [], ◌∷◌, ◌++◌, length, take, get_or, All, Option, Some, None, refl, sym, ap, ◌∙◌, subst, append_assoc, append-nil, arith}
+use Rattle.std.proofs.Common.{ℕ, suc, ◌≤◌, inl, inr, Bool, false, ◌≡◌, ◌+◌, ◌<◌, List, [], ◌∷◌, ◌++◌, length, take, get_or, All, Option, Some, None, refl, sym, ap, ◌∙◌, subst, append_assoc, append-nil, arith}
 use Rattle.std.proofs.lemmas.Grind.{flat_map-append}
 use Rattle.std.proofs.lemmas.List.{take_more, take_all, length-take-le}
 use Rattle.std.proofs.lemmas.List.Elements.{All-nil, All-push, All-take}
-use Rattle.io_edge.specs.Streams.{Appends, AppendsPart}
+use Rattle.io_edge.specs.Streams.{Appends, AppendsPart, Rose}
 use Rattle.board_model.specs.declared.commands.Command.{Command}
 use Rattle.board_model.specs.declared.made.Conn.{Conn}
 use Rattle.board_model.specs.declared.parts.BoardParts.{BoardParts}
@@ -17,6 +17,9 @@ use Rattle.route_law.proofs.Beginning.{nothing-state}
 use Rattle.route_law.proofs.Running.{run-next}
 use Rattle.step_laws.proofs.Keeping.{run_state}
 use Rattle.reply_text.specs.Texts.{reply_text, replies_text}
+use Rattle.contour.specs.declared.endings.Ending.{Ending}
+use Rattle.contour.specs.declared.endings.Ending.TheVariants.{BadWords, TooLong, Refused, ReadFault, WriteFault, NoMemory}
+use Rattle.contour.specs.Endings.{EndsAnswer, EndsAnswers}
 use Rattle.contour.specs.Answers.{KeepsTheRules, AreReplies, AnswersAll, AnswersFirst, IsCutShort}
 use Rattle.contour.specs.Sessions.{IsUnderway, AnswersOne, AnswersPart}
 
@@ -57,6 +60,15 @@ underway_more b quiet cs n d old new held between holds lt u o =
       written = subst Q (sym (replies_text-more b quiet u.replies o.reply)) (Appends-join held between holds (replies_text b quiet u.replies) (reply_text b quiet o.reply) u.written o.written);
     }
 
+-- the same, where the session's board is this one
+pub underway_next : (b b' : BoardParts) (quiet : Bool) (cs : List Command) (n : ℕ) (d : Command) (old new : List (List Conn)) (held between holds : Option (List ℕ)) → b' ≡ b → n < length cs → IsUnderway b quiet (take n cs) old held between → AnswersOne b' quiet old (get_or cs n d) new between holds → IsUnderway b quiet (take (n + 1) cs) new held holds
+underway_next b b' quiet cs n d old new held between holds e lt u o =
+    underway_more b quiet cs n d old new held between holds lt u (subst (λ (x : BoardParts). AnswersOne x quiet old (get_or cs n d) new between holds) e o)
+
+rose-from : (a b c : ℕ) → a ≤ b → Rose b c → Rose a c
+rose-from a b c l (inl h) = inl (omega (arith, l, h))
+rose-from a b c l (inr h) = inr h
+
 module _ (b : BoardParts) (board : IsBoard b) where
   pub keeps_rules : (cs : List Command) (rs : List Reply) → All (IsCommandOf b) cs → KeepsTheRules b cs rs
   keeps_rules cs rs known n lists run =
@@ -93,3 +105,14 @@ module _ (b : BoardParts) (board : IsBoard b) where
         written = u.written;
         part = o.written;
       }
+
+  -- an ending of one reply, after those to the first commands, as an ending of the replies
+  pub ends_all : (b' : BoardParts) (quiet : Bool) (cs : List Command) (n : ℕ) (d : Command) (old : List (List Conn)) (held between holds : Option (List ℕ)) (begun before after : ℕ) → b' ≡ b → n < length cs → All (IsCommandOf b) cs → begun ≤ before → IsUnderway b quiet (take n cs) old held between → (e : Ending) → EndsAnswer b' quiet old (get_or cs n d) between holds before after e → EndsAnswers b quiet cs held holds begun after e
+  ends_all b' quiet cs n d old held between holds begun before after same lt known falls u BadWords h = h
+  ends_all b' quiet cs n d old held between holds begun before after same lt known falls u TooLong h = h
+  ends_all b' quiet cs n d old held between holds begun before after same lt known falls u (Refused r) h = h
+  ends_all b' quiet cs n d old held between holds begun before after same lt known falls u ReadFault h = h
+  ends_all b' quiet cs n d old held between holds begun before after same lt known falls u WriteFault h =
+      (rose-from begun before after falls h.0, cut_short quiet cs n d old held between holds lt known u (subst (λ (x : BoardParts). AnswersPart x quiet old (get_or cs n d) between holds) same h.1))
+  ends_all b' quiet cs n d old held between holds begun before after same lt known falls u NoMemory h =
+      answers_first quiet cs n old held holds known (subst (λ (x : Option (List ℕ)). IsUnderway b quiet (take n cs) old held x) (sym h) u)

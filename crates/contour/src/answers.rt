@@ -1,5 +1,5 @@
 //! The replies to the commands of a board text, each written before the next command is begun.
-ghost use Rattle.std.specs.Prelude.{◌≡◌, ◌≤◌, ⊤, All, OnOk, IfOk, IfErr};
+ghost use Rattle.std.specs.Prelude.{◌≡◌, ◌≤◌, All, Err, IsOk, OnOk, IfOk, IfErr};
 ghost use Rattle.io_edge.specs.Streams.{Appends};
 ghost use Rattle.board_model.specs.Commands.{IsCommandOf};
 ghost use Rattle.route_law.specs.Regular.{IsRegular};
@@ -38,8 +38,8 @@ fn send<K: Sink>(
 
 /// The session, if all went well until now.
 fn go_on<P: Plane>(session: Session<P>, sent: Result<(), Ending>) -> Result<Session<P>, Ending>
-    ensures ok { IfOk result (λ s. (s ≡ session) × OnOk sent ⊤) }
-    ensures err { IfErr result (λ e. IfErr sent (λ f. f ≡ e)) }
+    ensures ok { IfOk result (λ s. (s ≡ session) × IsOk sent) }
+    ensures err { IfErr result (λ e. sent ≡ Err e) }
 {
     match sent {
         Ok(()) => Ok(session),
