@@ -12,7 +12,6 @@ use crate::inputs::read_text;
 use crate::lines::tell;
 use crate::requests::{Request, request_of};
 use board_model::{Board, Command};
-use board_reader::Input;
 use flat_plane::FlatPlane;
 use io_edge::{Sink, Source};
 use std::alloc::Global;
@@ -49,8 +48,8 @@ fn run<S: Source, K: Sink>(
     ensures source_setup { S.setup source.new ≡ S.setup source.old }
     ensures sink_setup { K.setup out.new ≡ K.setup out.old }
 {
-    let Input { board, commands } = read_text(alloc, source)?;
-    answer_all(alloc, board, commands.as_slice(), quiet, out)
+    let input = read_text(alloc, source)?;
+    answer_all(alloc, input.board, input.commands.as_slice(), quiet, out)
 }
 
 /// Does what a request asks for.

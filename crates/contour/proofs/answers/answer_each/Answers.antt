@@ -14,7 +14,7 @@ returns-in_err-session-clause-err g c =
     let sink = g.K.Sink in
     let b = c.args.board.parts in
     if_err_and c.from_residual.result _ _ (λ e h. subst (EndsAnswers b c.args.quiet c.args.commands.now (sink.written c.args.out.now) (sink.written c.args.out.now) (sink.faults c.args.out.now) (sink.faults c.args.out.now)) (sym h)
-        (answers_first b c.args.board.kept c.args.quiet c.args.commands.now 0 _ (sink.written c.args.out.now) (sink.written c.args.out.now) c.requires (underway_none b c.args.quiet (sink.written c.args.out.now)))) c.from_residual.ensures.1
+    (answers_first b c.args.board.kept c.args.quiet c.args.commands.now 0 _ (sink.written c.args.out.now) (sink.written c.args.out.now) c.requires (underway_none b c.args.quiet (sink.written c.args.out.now)))) c.from_residual.ensures.1
 
 pub returns-in_err-session-2-clause-err : goal.returns-in_err-session-2-clause-err
 returns-in_err-session-2-clause-err g c =
@@ -24,8 +24,8 @@ returns-in_err-session-2-clause-err g c =
     let old = c.loop-command.session in
     let f = i.falls in
     if_err_and c.from_residual-in_err-session-2.result _ _ (λ e h. subst (EndsAnswers b c.args.quiet c.args.commands.now (sink.written c.args.out.now) (sink.written c.answer.new.out) (sink.faults c.args.out.now) (sink.faults c.answer.new.out)) (sym h)
-        (ends_all b c.args.board.kept old.parts c.args.quiet c.args.commands.now c.loop-command.command-index _ old.lists (sink.written c.args.out.now) (sink.written c.loop-command.out) (sink.written c.answer.new.out) (sink.faults c.args.out.now) (sink.faults c.loop-command.out) (sink.faults c.answer.new.out)
-            i.board (omega arith) c.requires f i.underway c.in_err-session-2.field-0.0 c.in_err-session-2.ensures.err)) c.from_residual-in_err-session-2.ensures.1
+    (ends_all b c.args.board.kept old.parts c.args.quiet c.args.commands.now c.loop-command.command-index _ old.lists (sink.written c.args.out.now) (sink.written c.loop-command.out) (sink.written c.answer.new.out) (sink.faults c.args.out.now) (sink.faults c.loop-command.out) (sink.faults c.answer.new.out)
+    i.board (omega arith) c.requires f i.underway c.in_err-session-2.field-0.0 c.in_err-session-2.ensures.err)) c.from_residual-in_err-session-2.ensures.1
 
 pub loop-command-init : goal.loop-command-init
 loop-command-init g c =
@@ -58,4 +58,4 @@ returns-clause-ok g c =
     let b = c.args.board.parts in
     let P : List Command → Type 0 = λ cs. IsUnderway b c.args.quiet cs c.loop-command.session.lists (sink.written c.args.out.now) (sink.written c.loop-command.out) in
     answers_all b c.args.board.kept c.args.quiet c.args.commands.now c.loop-command.session.lists (sink.written c.args.out.now) (sink.written c.loop-command.out) c.requires
-        (subst P (take_all c.loop-command.command-index c.args.commands.now (omega arith)) i.underway)
+    (subst P (take_all c.loop-command.command-index c.args.commands.now (omega arith)) i.underway)
