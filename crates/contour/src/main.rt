@@ -13,6 +13,8 @@ mod lines;
 mod reader_tests;
 mod requests;
 #[cfg(test)]
+mod route_tests;
+#[cfg(test)]
 mod tests;
 
 use crate::calls::contour;
