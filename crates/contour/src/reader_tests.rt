@@ -115,7 +115,7 @@ const CASES: &str = "4 4 8 8|
 10 10 11 5|strips top sig;strips a sig;";
 
 /// Adds a text in which a mark stands for the end of a line.
-fn add(bytes: &mut Vec<u8>, text: &str, mark: u8, end: &[u8]) -> Result<(), AllocError> {
+pub fn add(bytes: &mut Vec<u8>, text: &str, mark: u8, end: &[u8]) -> Result<(), AllocError> {
     for byte in text.bytes() {
         if byte == mark {
             bytes.extend_from_slice(end)?;
@@ -127,7 +127,7 @@ fn add(bytes: &mut Vec<u8>, text: &str, mark: u8, end: &[u8]) -> Result<(), Allo
 }
 
 /// The small board with a text for the lines `first` to `last`, counted from 1.
-fn changed(alloc: Global, first: u64, last: u64, text: &str) -> Result<Vec<u8>, AllocError> {
+pub fn changed(alloc: Global, first: u64, last: u64, text: &str) -> Result<Vec<u8>, AllocError> {
     let mut bytes = Vec::new(alloc);
     for (index, line) in LINES.iter().enumerate() {
         let number = index as u64 + 1;
@@ -247,7 +247,7 @@ fn reads_lines_with_carriage_returns(rt: HostRuntime) -> Result<(), Fail> {
     let mut bytes = Vec::new(rt.alloc());
     add(&mut bytes, CONNECTOR, b'\n', b"\r\n")?;
     match read_input(rt.alloc(), &bytes) {
-        Ok(input) => holds(&rt, &input, "J1-U3", (30000, 12500), [4, 3, 12, 24, 8, 1]),
+        Ok(input) => holds(&rt, &input, "J1-U3", (30000, 12500), [4, 3, 12, 24, 8, 3]),
         Err(_) => return Err("the text is read".into()),
     }
     Ok(())
