@@ -1,5 +1,5 @@
 -- What planes show while shapes are taken out of them one by one.
-use Rattle.std.proofs.Common.{◌≡◌, ℕ, ◌+◌, ◌<◌, ◌⊎◌, inl, inr, List, [], ◌∷◌, ◌++◌, length, take, get_or, sym, ◌∙◌, ap, subst, arith}
+use Rattle.std.proofs.Common.{◌≡◌, ℕ, ◌+◌, ◌<◌, inl, inr, List, [], ◌∷◌, ◌++◌, length, take, get_or, sym, ◌∙◌, ap, subst}
 use Rattle.std.specs.Prelude.{Contains, Some, slice_get}
 use Rattle.std.proofs.lemmas.List.{take_more}
 use Rattle.std.proofs.lemmas.List.Elements.{Contains-append_left, Contains-append_right, Contains-append_cases, Contains-push, Contains-push_cases}
@@ -15,7 +15,7 @@ use Rattle.plane_core.proofs.Members.{has_none, has_head, has_cases}
 use Rattle.plane_set.specs.declared.families.Family.{Family}
 use Rattle.plane_set.specs.declared.families.Family.TheVariants.{Wires, Vias}
 use Rattle.plane_set.specs.Drawings.{Drawing, IsBoardArea, Shows}
-use Rattle.plane_set.specs.Families.{rule_in, class_at, AreRows, HaveAllClasses}
+use Rattle.plane_set.specs.Families.{rule_in, class_at, HaveAllClasses}
 use Rattle.plane_set.specs.Places.{EachAt}
 use Rattle.plane_set.specs.Relabelled.{IsRelabelled, IsRowRelabelled, AreRowsRelabelled, AreRelabelled}
 use Rattle.plane_set.specs.Standing.{PlaneTable, HasPlanes, StandsFor}

@@ -1,4 +1,4 @@
-use Rattle.std.proofs.Common.{◌≡◌, List, take, subst, arith}
+use Rattle.std.proofs.Common.{List, subst, arith}
 use Rattle.std.proofs.lemmas.List.{take_all}
 use Rattle.board_model.specs.declared.shapes.Shape.{Shape}
 use Rattle.rip_up.proofs.Removing.{StandsSoFar, start, step_here, finish}
@@ -17,5 +17,5 @@ returns g c =
     let b = c.args.board.now.parts in
     let gone = c.args.gone.now in
     let done : StandsSoFar b c.args.stay.now gone gone c.loop-shape.rested =
-        subst (λ (ss : List Shape). StandsSoFar b c.args.stay.now gone ss c.loop-shape.rested) (take_all c.loop-shape.shape-index gone (omega arith)) c.loop-shape.invariant in
+    subst (λ (ss : List Shape). StandsSoFar b c.args.stay.now gone ss c.loop-shape.rested) (take_all c.loop-shape.shape-index gone (omega arith)) c.loop-shape.invariant in
     finish b c.args.stay.now gone c.loop-shape.rested done
