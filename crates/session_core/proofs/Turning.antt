@@ -38,7 +38,7 @@ use Rattle.session_core.proofs.Listing.{length_pushed}
 use Rattle.session_core.proofs.OnBoard.{conn_within}
 
 -- a list of two parts has the items of both
-parts : (xs ys : List Shape) (s : Shape) → Contains (xs ++ ys) s ↔ (Contains xs s ⊎ Contains ys s)
+pub parts : (xs ys : List Shape) (s : Shape) → Contains (xs ++ ys) s ↔ (Contains xs s ⊎ Contains ys s)
 parts xs ys s = (Contains-append_cases xs ys s, back)
   where
     back : Contains xs s ⊎ Contains ys s → Contains (xs ++ ys) s
