@@ -1,6 +1,5 @@
 -- Taking up connections one after another, and giving a net back those that it had.
-use Rattle.std.proofs.Common.{◌≡◌, ◌<◌, ◌≤◌, ℕ, ◌+◌, ◌↔◌, ◌⊎◌, inl, inr, List, [], ◌∷◌, ◌++◌, Option, Some, None, Result, Ok, Err, IfOk, IfSome, IfNone, length, take, get_or, set, Contains, sym, ◌∙◌, ap, subst, refl, append_assoc, append-nil, arith}
-use Rattle.std.specs.Prelude.{slice_get}
+use Rattle.std.proofs.Common.{◌≡◌, ◌<◌, ℕ, ◌+◌, List, [], ◌∷◌, ◌++◌, Option, Some, None, Result, Ok, Err, IfOk, IfSome, IfNone, length, take, get_or, set, sym, ◌∙◌, ap, subst, refl, append_assoc}
 use Rattle.std.specs.List.{flat_map}
 use Rattle.std.proofs.lemmas.List.{take_more, set-set, set-get_or, get_or-set_same}
 use Rattle.std.proofs.lemmas.Option.{slice_get_read}
@@ -8,21 +7,19 @@ use Rattle.geo_rect.specs.declared.ids.NetId.{NetId}
 use Rattle.geo_rect.specs.declared.ids.Spot.{Spot}
 use Rattle.board_model.specs.declared.made.Conn.{Conn}
 use Rattle.board_model.specs.declared.parts.BoardParts.{BoardParts}
-use Rattle.board_model.specs.declared.shapes.Shape.{Shape}
 use Rattle.board_model.specs.Boxes.{source_boxes, target_boxes}
 use Rattle.board_model.specs.Made.{conns_of, with_conn, without_conns}
 use Rattle.board_model.specs.Rules.{IsBoard}
 use Rattle.board_model.specs.Shapes.{conn_shapes, state_shapes}
 use Rattle.plane_set.specs.Standing.{PlaneTable, StandsFor}
 use Rattle.plane_set.proofs.Standing.{stands_for_members}
-use Rattle.route_law.specs.Ground.{Ground}
 use Rattle.route_law.specs.Joins.{IsConnection}
 use Rattle.route_law.specs.Routing.{conns_needed, next_number, next_targets}
 use Rattle.step_laws.proofs.Shapes.{shapes_without_conns}
 use Rattle.strip_moves.specs.Grounds.{ground_of}
 use Rattle.strip_moves.proofs.OfShapes.{ground_of_shapes}
 use Rattle.walk_check.specs.Corners.{IsFirstBadCorner}
-use Rattle.session_core.specs.Adopting.{IsNextWalk, IsRefusedHere, complete, bad, IsVerdict, IsTakenOne, AreWalksInTurn, IsFirstRefused}
+use Rattle.session_core.specs.Adopting.{IsNextWalk, IsRefusedHere, bad, IsVerdict, IsTakenOne, AreWalksInTurn, IsFirstRefused}
 use Rattle.session_core.specs.Sessions.{IsSitting}
 use Rattle.session_core.proofs.Turning.{parts, net_listed}
 

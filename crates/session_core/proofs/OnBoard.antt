@@ -1,14 +1,11 @@
 -- The boxes from which a net's next connection may start lie on the board.
-use Rattle.std.proofs.Common.{◌≡◌, ◌<◌, ◌≤◌, ℕ, ℤ, pos, ◌≤ℤ◌, ◌+◌, ◌-◌, List, [], ◌∷◌, ◌++◌, inl, inr, length, map, take, filter, All, sym, ap, subst, refl, arith}
-use Rattle.std.specs.Prelude.{slice_get, Some}
-use Rattle.std.specs.List.{flat_map, range_with_len}
-use Rattle.std.proofs.lemmas.List.Elements.{All-nil, All-cons, All-append, All-map, All-weaker, All-filter, All-take, All-get_or, All-set}
-use Rattle.geo_rect.specs.declared.ids.KindId.{KindId}
+use Rattle.std.proofs.Common.{◌<◌, ◌≤◌, ℕ, pos, ◌+◌, ◌-◌, List, [], ◌∷◌, length, map, take, All, subst, arith}
+use Rattle.std.specs.List.{flat_map}
+use Rattle.std.proofs.lemmas.List.Elements.{All-nil, All-cons, All-append, All-map, All-weaker, All-filter, All-take, All-get_or}
 use Rattle.geo_rect.specs.declared.ids.LayerId.{LayerId}
 use Rattle.geo_rect.specs.declared.ids.NetId.{NetId}
 use Rattle.geo_rect.specs.declared.ids.Node.{Node}
 use Rattle.geo_rect.specs.declared.ids.Spot.{Spot}
-use Rattle.geo_rect.specs.declared.shapes.Point.{Point}
 use Rattle.geo_rect.specs.Plane.{lone}
 use Rattle.board_model.specs.declared.made.Conn.{Conn}
 use Rattle.board_model.specs.declared.made.Leg.{Leg}
@@ -18,7 +15,7 @@ use Rattle.board_model.specs.declared.parts.Pin.{Pin}
 use Rattle.board_model.specs.declared.shapes.Shape.{Shape}
 use Rattle.board_model.specs.Boxes.{spot_on, pin_boxes, leg_boxes, legs_boxes, corner_boxes, conn_boxes, source_boxes}
 use Rattle.board_model.specs.Lookup.{kind_of, layer_at, layers_from, pins_of}
-use Rattle.board_model.specs.Made.{conns_of, with_conn}
+use Rattle.board_model.specs.Made.{conns_of}
 use Rattle.board_model.specs.Rules.{IsBoard, IsOnBoard, IsPin}
 use Rattle.board_model.specs.Segments.{segment}
 use Rattle.board_model.specs.Shapes.{place_of, end_of}

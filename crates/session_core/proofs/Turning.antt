@@ -1,31 +1,27 @@
 -- A session goes on when a connection is made, and when a net's connections are removed.
-use Rattle.std.proofs.Common.{◌≡◌, ◌<◌, ◌≤◌, ℕ, ◌+◌, ◌-◌, ◌↔◌, ◌⊎◌, inl, inr, List, [], ◌∷◌, ◌++◌, Some, length, map, All, Contains, Option, None, is_some, false, sym, ◌∙◌, ap, subst, refl, rules, arith}
+use Rattle.std.proofs.Common.{◌≡◌, ◌<◌, ℕ, ◌+◌, ◌↔◌, ◌⊎◌, inl, inr, List, [], ◌∷◌, ◌++◌, Some, length, All, Contains, Option, None, is_some, false, sym, ap, subst, rules, arith}
 use Rattle.std.specs.Prelude.{IsSome}
 use Rattle.std.specs.List.{flat_map}
 use Rattle.std.proofs.lemmas.Bool.{false≢true}
-use Rattle.std.proofs.lemmas.List.Elements.{All-nil, All-cons, All-append, All-map, All-weaker, All-get_or, All-set, Contains-append_left, Contains-append_right, Contains-append_cases}
-use Rattle.geo_rect.specs.declared.ids.LayerId.{LayerId}
+use Rattle.std.proofs.lemmas.List.Elements.{All-nil, All-cons, All-append, All-weaker, All-get_or, All-set, Contains-append_left, Contains-append_right, Contains-append_cases}
 use Rattle.geo_rect.specs.declared.ids.NetId.{NetId}
-use Rattle.geo_rect.specs.declared.ids.Node.{Node}
 use Rattle.board_model.specs.declared.made.Conn.{Conn}
-use Rattle.board_model.specs.declared.made.Leg.{Leg}
-use Rattle.board_model.specs.declared.made.Leg.TheVariants.{Wire, Via}
 use Rattle.board_model.specs.declared.parts.BoardParts.{BoardParts}
 use Rattle.board_model.specs.declared.shapes.Shape.{Shape}
 use Rattle.board_model.specs.Known.{IsKnown}
 use Rattle.board_model.specs.Lookup.{pins_of}
 use Rattle.board_model.specs.Made.{conns_of, with_conn, without_conns}
 use Rattle.board_model.specs.Rules.{IsBoard}
-use Rattle.board_model.specs.Shapes.{net_shape, leg_shapes, legs_shapes, conn_shapes, board_shapes, state_shapes, end_of}
-use Rattle.board_model.specs.WellFormed.{IsWellFormed, AreWellFormed}
-use Rattle.board_model.proofs.MadeShapes.{conn_known, state_known}
+use Rattle.board_model.specs.Shapes.{conn_shapes, board_shapes, state_shapes}
+use Rattle.board_model.specs.WellFormed.{IsWellFormed}
+use Rattle.board_model.proofs.MadeShapes.{conn_known}
 use Rattle.board_model.proofs.StateShapes.{All-flat_map, only_the_board}
 use Rattle.plane_set.specs.Standing.{PlaneTable, StandsFor}
 use Rattle.plane_set.proofs.Standing.{stands_for_members}
 use Rattle.route_law.specs.declared.replies.Made1.{Made1}
 use Rattle.route_law.specs.declared.replies.Fail.{Fail}
 use Rattle.route_law.specs.Kept.{IsState}
-use Rattle.route_law.specs.Routing.{IsNextConnection, AreMadeInTurn, conns_needed, next_number}
+use Rattle.route_law.specs.Routing.{IsNextConnection, AreMadeInTurn, next_number}
 use Rattle.route_law.specs.Steps.{nothing_made}
 use Rattle.route_law.proofs.Beginning.{nothing-state}
 use Rattle.route_law.proofs.Running.{made-next}

@@ -26,10 +26,7 @@ pub enum Adopted {
     /// this is its first bad corner. Corner 0 is its start, which is bad also where the net lacks no
     /// connection; corner `k` the node in which leg `k` ends, from 1; and one more than the last
     /// stands for its cost.
-    Refused {
-        conn: u64,
-        corner: u64,
-    },
+    Refused { conn: u64, corner: u64 },
 }
 
 /// What came of connections that were to be taken up, and the planes that this leaves.
@@ -188,12 +185,7 @@ fn give_back<P: Plane>(
 }
 
 /// Appends the connections to those of the net.
-fn append_all(
-    alloc: Global,
-    made: &mut Made,
-    net: NetId,
-    conns: &[Conn],
-) -> Result<(), NoMemory>
+fn append_all(alloc: Global, made: &mut Made, net: NetId, conns: &[Conn]) -> Result<(), NoMemory>
     requires net { net.0 < length made.old.lists }
     ensures { OnOk result (made.new.lists ≡ slice_set made.old.lists net.0 (conns_of made.old.lists net ++ conns.now)) }
 {

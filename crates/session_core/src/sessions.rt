@@ -102,8 +102,9 @@ impl<P: Plane> Session<P> {
             mut made,
             planes,
         } = self;
-        let Adoption { planes, outcome } =
-            adopt_conns(alloc, &board, &mut made, planes, net, conns)?;
+        let Adoption { planes, outcome } = adopt_conns(
+            alloc, &board, &mut made, planes, net, conns,
+        )?;
         let session = Session {
             board,
             made,

@@ -1,7 +1,6 @@
-use Rattle.std.proofs.Common.{◌≡◌, List, sym, ◌∙◌, ap, subst}
+use Rattle.std.proofs.Common.{List, sym, ◌∙◌, subst}
 use Rattle.board_model.specs.declared.made.Conn.{Conn}
 use Rattle.session_core.specs.declared.adopts.Adopted.{Adopted}
-use Rattle.session_core.specs.declared.adopts.Adopted.TheVariants.{Refused}
 use Rattle.session_core.specs.Adopting.{AreTaken, AreAdopted, IsFirstRefused}
 use Rattle.session_core.specs.Sessions.{IsSitting}
 use Rattle.session_core.proofs.Adopting.{refused_again}

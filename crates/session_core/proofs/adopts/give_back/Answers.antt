@@ -1,4 +1,4 @@
-use Rattle.std.proofs.Common.{◌≡◌, List, ◌++◌, All, set, sym, ◌∙◌, ap, subst}
+use Rattle.std.proofs.Common.{List, ◌++◌, All, set, sym, ◌∙◌, subst}
 use Rattle.std.specs.List.{flat_map}
 use Rattle.std.proofs.lemmas.List.Elements.{All-weaker}
 use Rattle.board_model.specs.declared.made.Conn.{Conn}
@@ -9,7 +9,7 @@ use Rattle.board_model.specs.Shapes.{conn_shapes, state_shapes}
 use Rattle.board_model.specs.WellFormed.{IsWellFormed}
 use Rattle.board_model.proofs.MadeShapes.{conn_known}
 use Rattle.board_model.proofs.StateShapes.{All-flat_map}
-use Rattle.plane_set.specs.Standing.{PlaneTable, StandsFor}
+use Rattle.plane_set.specs.Standing.{StandsFor}
 use Rattle.session_core.specs.Sessions.{IsSitting}
 use Rattle.session_core.proofs.Adopting.{in_place, sitting_back}
 use Rattle.session_core.proofs.Turning.{net_listed}

@@ -1,4 +1,4 @@
-use Rattle.std.proofs.Common.{◌≡◌, ℕ, ◌∙◌, Option, Some, sym, subst, arith}
+use Rattle.std.proofs.Common.{ℕ, Option, Some, sym, subst, arith}
 use Rattle.session_core.specs.Adopting.{IsTakenOne, IsFirstRefused}
 use Rattle.session_core.proofs.Adopting.{walks_more, first_refused, taken_none}
 use Rattle.session_core.proofs.adopts.take_conns.Goals as goal
