@@ -1,5 +1,5 @@
 -- What the search and the way back give is a net's next connection, or that it has none.
-use Rattle.std.proofs.Common.{◌≡◌, ◌<◌, ◌≤◌, ℕ, ◌+◌, ◌-◌, List, [], ◌∷◌, Some, None, inl, inr, length, map, All, sym, ◌∙◌, ap, subst, refl, arith}
+use Rattle.std.proofs.Common.{◌≡◌, ◌<◌, ◌≤◌, ℕ, ◌+◌, ◌-◌, List, Some, inl, inr, length, sym, ◌∙◌, ap, subst, refl, arith}
 use Rattle.std.specs.Prelude.{slice_get, Option}
 use Rattle.std.specs.List.{range_with_len}
 use Rattle.std.proofs.lemmas.Option.{slice_get_cases}
@@ -22,11 +22,8 @@ use Rattle.board_model.specs.WellFormed.{IsWellFormed}
 use Rattle.plane_set.specs.Standing.{PlaneTable, StandsFor}
 use Rattle.route_law.specs.declared.certs.Cert.{Cert}
 use Rattle.route_law.specs.declared.certs.Entry.{Entry}
-use Rattle.route_law.specs.declared.replies.Fail.{Fail}
-use Rattle.route_law.specs.declared.replies.Made1.{Made1}
 use Rattle.route_law.specs.Connections.{steps_of}
 use Rattle.route_law.specs.Ground.{Ground}
-use Rattle.route_law.specs.Joins.{IsLeastConnection}
 use Rattle.route_law.specs.Routing.{next_number, next_targets}
 use Rattle.route_law.specs.Walks.{HasNode, IsWalk, IsLeastCost, IsLowerBound, HasNoJoiningWalk, last_node, walk_cost}
 use Rattle.strip_moves.specs.Grounds.{ground_of}

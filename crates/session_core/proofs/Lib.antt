@@ -1,3 +1,4 @@
+pub mod Adopting
 pub mod Answering
 pub mod Listing
 pub mod OnBoard

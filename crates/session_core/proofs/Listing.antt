@@ -1,5 +1,5 @@
 -- What a session lists: connections with their numbers, and the strips of a plane.
-use Rattle.std.proofs.Common.{◌≡◌, ◌<◌, ℕ, ◌+◌, List, [], ◌∷◌, ◌++◌, length, take, get_or, sym, ◌∙◌, ap, subst, refl, arith}
+use Rattle.std.proofs.Common.{◌≡◌, ◌<◌, ℕ, ◌+◌, List, [], ◌∷◌, ◌++◌, length, take, get_or, sym, ◌∙◌, ap, subst, arith}
 use Rattle.std.proofs.lemmas.List.{take_more, length-append, length-take-le}
 use Rattle.geo_rect.specs.declared.ids.ClassId.{ClassId}
 use Rattle.geo_rect.specs.declared.ids.Label.{Label}

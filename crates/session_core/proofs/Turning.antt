@@ -1,43 +1,40 @@
 -- A session goes on when a connection is made, and when a net's connections are removed.
-use Rattle.std.proofs.Common.{◌≡◌, ◌<◌, ◌≤◌, ℕ, ◌+◌, ◌-◌, ◌↔◌, ◌⊎◌, inl, inr, List, [], ◌∷◌, ◌++◌, Some, length, map, All, Contains, Option, None, is_some, false, sym, ◌∙◌, ap, subst, refl, rules, arith}
+use Rattle.std.proofs.Common.{◌≡◌, ◌<◌, ℕ, ◌+◌, ◌↔◌, ◌⊎◌, inl, inr, List, [], ◌∷◌, ◌++◌, Some, length, All, Contains, Option, None, is_some, false, sym, ap, subst, rules, arith}
 use Rattle.std.specs.Prelude.{IsSome}
 use Rattle.std.specs.List.{flat_map}
 use Rattle.std.proofs.lemmas.Bool.{false≢true}
-use Rattle.std.proofs.lemmas.List.{get_or-set_same}
-use Rattle.std.proofs.lemmas.List.Elements.{All-nil, All-cons, All-append, All-map, All-weaker, All-get_or, All-set, Contains-append_left, Contains-append_right, Contains-append_cases}
-use Rattle.geo_rect.specs.declared.ids.LayerId.{LayerId}
+use Rattle.std.proofs.lemmas.List.Elements.{All-nil, All-cons, All-append, All-weaker, All-get_or, All-set, Contains-append_left, Contains-append_right, Contains-append_cases}
 use Rattle.geo_rect.specs.declared.ids.NetId.{NetId}
-use Rattle.geo_rect.specs.declared.ids.Node.{Node}
 use Rattle.board_model.specs.declared.made.Conn.{Conn}
-use Rattle.board_model.specs.declared.made.Leg.{Leg}
-use Rattle.board_model.specs.declared.made.Leg.TheVariants.{Wire, Via}
 use Rattle.board_model.specs.declared.parts.BoardParts.{BoardParts}
 use Rattle.board_model.specs.declared.shapes.Shape.{Shape}
 use Rattle.board_model.specs.Known.{IsKnown}
+use Rattle.board_model.specs.Lookup.{pins_of}
 use Rattle.board_model.specs.Made.{conns_of, with_conn, without_conns}
 use Rattle.board_model.specs.Rules.{IsBoard}
-use Rattle.board_model.specs.Shapes.{net_shape, leg_shapes, legs_shapes, conn_shapes, board_shapes, state_shapes, end_of}
-use Rattle.board_model.specs.WellFormed.{IsWellFormed, AreWellFormed}
-use Rattle.board_model.proofs.MadeShapes.{conn_known, state_known}
+use Rattle.board_model.specs.Shapes.{conn_shapes, board_shapes, state_shapes}
+use Rattle.board_model.specs.WellFormed.{IsWellFormed}
+use Rattle.board_model.proofs.MadeShapes.{conn_known}
 use Rattle.board_model.proofs.StateShapes.{All-flat_map, only_the_board}
 use Rattle.plane_set.specs.Standing.{PlaneTable, StandsFor}
 use Rattle.plane_set.proofs.Standing.{stands_for_members}
 use Rattle.route_law.specs.declared.replies.Made1.{Made1}
 use Rattle.route_law.specs.declared.replies.Fail.{Fail}
 use Rattle.route_law.specs.Kept.{IsState}
-use Rattle.route_law.specs.Routing.{IsNextConnection, AreMadeInTurn, conns_needed, next_number}
+use Rattle.route_law.specs.Routing.{IsNextConnection, AreMadeInTurn, next_number}
 use Rattle.route_law.specs.Steps.{nothing_made}
 use Rattle.route_law.proofs.Beginning.{nothing-state}
 use Rattle.route_law.proofs.Running.{made-next}
 use Rattle.step_laws.proofs.Shapes.{shapes_with_conn, shapes_without_conns}
 use Rattle.session_core.specs.Sessions.{IsSitting, IsWithin}
-use Rattle.step_laws.proofs.Keeping.{next_state, removed_state}
+use Rattle.step_laws.proofs.Keeping.{legs_owned, length-with_conn, joined_state, removed_state}
+use Rattle.session_core.specs.Adopting.{IsNextWalk}
 use Rattle.session_core.specs.Attempts.{IsOneMore, IsTurn}
 use Rattle.session_core.proofs.Listing.{length_pushed}
 use Rattle.session_core.proofs.OnBoard.{conn_within}
 
 -- a list of two parts has the items of both
-parts : (xs ys : List Shape) (s : Shape) → Contains (xs ++ ys) s ↔ (Contains xs s ⊎ Contains ys s)
+pub parts : (xs ys : List Shape) (s : Shape) → Contains (xs ++ ys) s ↔ (Contains xs s ⊎ Contains ys s)
 parts xs ys s = (Contains-append_cases xs ys s, back)
   where
     back : Contains xs s ⊎ Contains ys s → Contains (xs ++ ys) s
@@ -66,18 +63,18 @@ module _ (b : BoardParts) (lists : List (List Conn)) (n : NetId) (set : PlaneTab
       (All-append (IsWithin b) (conns_of lists n) (c ∷ []) (All-get_or (All (IsWithin b)) lists n.0 [] net_listed h.within) (All-cons (IsWithin b) c [] w (All-nil (IsWithin b))))
       h.within
 
-  -- a session goes on with the net's next connection, where the planes stand for its shapes too
-  pub sitting_next : (m : Made1) (after : PlaneTable) → length (conns_of lists n) < conns_needed b n → IsNextConnection b lists n m → StandsFor b (state_shapes b lists ++ conn_shapes b n m.conn) after → IsSitting b (with_conn lists n m.conn) after
-  sitting_next m after few next stands =
-      let walk = next.least.connection in
+  -- a session goes on with a connection of the net, where the planes stand for its shapes too
+  pub sitting_next : (c : Conn) (after : PlaneTable) → IsNextWalk b lists n c → StandsFor b (state_shapes b lists ++ conn_shapes b n c) after → IsSitting b (with_conn lists n c) after
+  sitting_next c after next stands =
+      let walk = next.connection in
       record {
         board = h.board;
-        state = next_state b lists n m h.board h.state known few next;
-        within = with_within m.conn (conn_within b h.board (state_shapes b lists) n next.ground next.is_ground m.conn walk.well_formed walk.walk.walk);
-        stands = stands_for_members b (state_shapes b lists ++ conn_shapes b n m.conn) (state_shapes b (with_conn lists n m.conn)) after stands
+        state = joined_state b lists n c next.ground _ _ h.board h.state known next.lacks next.is_ground walk;
+        within = with_within c (conn_within b h.board (state_shapes b lists) n next.ground next.is_ground c walk.well_formed walk.walk.walk);
+        stands = stands_for_members b (state_shapes b lists ++ conn_shapes b n c) (state_shapes b (with_conn lists n c)) after stands
             (λ s.
-            let both = parts (state_shapes b lists) (conn_shapes b n m.conn) s in
-            let shapes = shapes_with_conn b lists n m.conn s net_listed in
+            let both = parts (state_shapes b lists) (conn_shapes b n c) s in
+            let shapes = shapes_with_conn b lists n c s net_listed in
             (λ k. shapes.1 (both.0 k), λ k. both.1 (shapes.0 k)));
       }
 
@@ -104,19 +101,17 @@ module _ (b : BoardParts) (lists : List (List Conn)) (n : NetId) (set : PlaneTab
       All-flat_map (IsKnown b) (conn_shapes b n) (conns_of lists n)
       (All-weaker (IsWellFormed b) (λ c. All (IsKnown b) (conn_shapes b n c)) (conn_known b h.board n known) _ own_well_formed)
 
-module _ (b : BoardParts) (n : NetId) where
-  leg_owned : (v : Node) (leg : Leg) → All (λ (s : Shape). IsSome s.owner) (leg_shapes b n v leg)
-  leg_owned v (Wire w) = All-cons (λ (s : Shape). IsSome s.owner) _ [] (search rules) (All-nil (λ (s : Shape). IsSome s.owner))
-  leg_owned v (Via k w) = All-map (λ (s : Shape). IsSome s.owner) _ _ (λ i d l. search rules)
+-- each shape of the net's connections is the net's
+pub conns_owned : (b : BoardParts) (n : NetId) (conns : List Conn) → All (λ (s : Shape). IsSome s.owner) (flat_map (conn_shapes b n) conns)
+conns_owned b n [] = All-nil (λ (s : Shape). IsSome s.owner)
+conns_owned b n (c ∷ cs) =
+    All-append (λ (s : Shape). IsSome s.owner) (conn_shapes b n c) (flat_map (conn_shapes b n) cs)
+    (All-weaker (λ (s : Shape). s.owner ≡ Some n) (λ s. IsSome s.owner) (λ s e. subst (λ (o : Option NetId). IsSome o) (sym e) (search rules)) _ (legs_owned b n c.start c.legs))
+    (conns_owned b n cs)
 
-  legs_owned : (v : Node) (legs : List Leg) → All (λ (s : Shape). IsSome s.owner) (legs_shapes b n v legs)
-  legs_owned v [] = All-nil (λ (s : Shape). IsSome s.owner)
-  legs_owned v (leg ∷ legs) = All-append (λ (s : Shape). IsSome s.owner) (leg_shapes b n v leg) (legs_shapes b n (end_of leg) legs) (leg_owned v leg) (legs_owned (end_of leg) legs)
-
-  -- each shape of the net's connections is the net's
-  pub conns_owned : (conns : List Conn) → All (λ (s : Shape). IsSome s.owner) (flat_map (conn_shapes b n) conns)
-  conns_owned [] = All-nil (λ (s : Shape). IsSome s.owner)
-  conns_owned (c ∷ cs) = All-append (λ (s : Shape). IsSome s.owner) (conn_shapes b n c) (flat_map (conn_shapes b n) cs) (legs_owned c.start c.legs) (conns_owned cs)
+-- the net's next connection is a walk that joins its next pin, where the net has such a pin
+pub next_walk : (b : BoardParts) (lists : List (List Conn)) (n : NetId) (k : ℕ) (m : Made1) → k ≡ next_number lists n → k < length (pins_of b n) → IsNextConnection b lists n m → IsNextWalk b lists n m.conn
+next_walk b lists n k m e l next = record { lacks = omega arith; ground = next.ground; is_ground = next.is_ground; connection = next.least.connection }
 
 -- where none is named that has no route, the net's next connection was made
 pub turn_made : (b : BoardParts) (n : NetId) (old : List (List Conn)) (before : List Made1) (f : Option Fail) (new : List (List Conn)) (after : List Made1) → is_some f ≡ false → IsTurn b n old before f new after → IsOneMore b n old before new after
@@ -132,9 +127,8 @@ module _ (b : BoardParts) (n : NetId) (mid : List (List Conn)) (before : List Ma
 
   pub number_on : n.0 < length mid → next_number new n ≡ next_number mid n + 1
   number_on l =
-      let own : conns_of (with_conn mid n h.made.conn) n ≡ conns_of mid n ++ h.made.conn ∷ [] = get_or-set_same mid n.0 (conns_of mid n ++ h.made.conn ∷ []) [] l in
       let same : length (conns_of new n) ≡ length (conns_of (with_conn mid n h.made.conn) n) = ap (λ (ls : List (List Conn)). length (conns_of ls n)) h.appended in
-      omega (arith, ap (λ (cs : List Conn). length cs) own, length_pushed (conns_of mid n) h.made.conn _ own)
+      omega (arith, length-with_conn b mid n h.made.conn l)
 
   pub count_on : length after ≡ length before + 1
   count_on = length_pushed before h.made after h.listed

@@ -75,9 +75,14 @@ fn join<P: Plane>(
 {
     match search(alloc, board, planes, net, sources, targets)? {
         Found::Path {
-            entry, end, cert, ..
+            entry,
+            end,
+            cert,
+            ..
         } => {
-            let conn = trace(alloc, board, planes, net, sources, targets, &cert, entry, end)?;
+            let conn = trace(
+                alloc, board, planes, net, sources, targets, &cert, entry, end,
+            )?;
             Ok(Attempt::Joined(Made1 {
                 number: number as u64,
                 conn,

@@ -3,6 +3,7 @@
 //! All coordinates are whole micrometres.
 #![tactic(auto)]
 
+mod adopts;
 mod answers;
 mod attempts;
 mod looks;
@@ -11,4 +12,5 @@ mod routes;
 mod sessions;
 mod turns;
 
+pub use adopts::Adopted;
 pub use sessions::Session;

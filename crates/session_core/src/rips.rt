@@ -34,7 +34,7 @@ pub fn rip<P: Plane>(
 }
 
 /// The shapes of connections of a net, in their order.
-fn shapes_of_conns(
+pub fn shapes_of_conns(
     alloc: Global,
     board: &Board,
     net: NetId,

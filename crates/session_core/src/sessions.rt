@@ -1,11 +1,13 @@
-ghost use Rattle.std.specs.Prelude.{◌≡◌, IfOk};
+ghost use Rattle.std.specs.Prelude.{◌≡◌, ◌<◌, length, IfOk};
 ghost use Rattle.board_model.specs.Commands.{IsCommandOf};
 ghost use Rattle.route_law.specs.Regular.{IsRegular};
 ghost use Rattle.route_law.specs.Steps.{IsStep, nothing_made};
+ghost use Rattle.session_core.specs.Adopting.{AreAdopted};
 
+use crate::adopts::{Adopted, Adoption, adopt_conns};
 use crate::answers::{Answered, answer};
-use board_model::{Board, Command, Made};
-use geo_rect::NoMemory;
+use board_model::{Board, Command, Conn, Made};
+use geo_rect::{NetId, NoMemory};
 use plane_core::Plane;
 use plane_set::PlaneSet;
 use route_law::Reply;
@@ -79,5 +81,35 @@ impl<P: Plane> Session<P> {
             planes,
         };
         Ok((session, reply))
+    }
+
+    /// Appends the connections to those of the net, which is in the board, where each is a walk of it
+    /// from what it has to its next pin, over nodes and vias that it may pass, with its true cost, in
+    /// the state with those before it appended. Where one is not, nothing changes, and the first is
+    /// told. The connections may be any. After `NoMemory` the session is gone.
+    pub fn adopt(
+        self,
+        alloc: Global,
+        net: NetId,
+        conns: &[Conn],
+    ) -> Result<(Session<P>, Adopted), NoMemory>
+        requires net { net.0 < length self.parts.net_names }
+        ensures adopted { IfOk result (λ a. AreAdopted self.parts self.lists net conns.now a.1 a.0.lists) }
+        ensures board { IfOk result (λ a. a.0.parts ≡ self.parts) }
+    {
+        let Session {
+            board,
+            mut made,
+            planes,
+        } = self;
+        let Adoption { planes, outcome } = adopt_conns(
+            alloc, &board, &mut made, planes, net, conns,
+        )?;
+        let session = Session {
+            board,
+            made,
+            planes,
+        };
+        Ok((session, outcome))
     }
 }

@@ -2,8 +2,9 @@
 
 ghost use Rattle.std.specs.Prelude.{◌≡◌, ◌<◌, length, IfOk};
 ghost use Rattle.board_model.specs.Lookup.{pins_of};
-ghost use Rattle.board_model.specs.Made.{conns_of, with_conn};
-ghost use Rattle.route_law.specs.Routing.{IsNextConnection, conns_needed, next_number};
+ghost use Rattle.board_model.specs.Made.{with_conn};
+ghost use Rattle.route_law.specs.Routing.{next_number};
+ghost use Rattle.session_core.specs.Adopting.{IsNextWalk};
 ghost use Rattle.session_core.specs.Attempts.{IsTurn};
 ghost use Rattle.session_core.specs.Sessions.{IsSitting};
 
@@ -43,7 +44,7 @@ pub fn make_next<P: Plane>(
 {
     match next_of(alloc, board, made, &planes, net, number)? {
         Attempt::Joined(next) => {
-            let planes = keep(alloc, board, made, planes, net, &next)?;
+            let planes = keep(alloc, board, made, planes, net, &next.conn)?;
             list.push(next)?;
             Ok(Turn { planes, none: None })
         }
@@ -54,25 +55,24 @@ pub fn make_next<P: Plane>(
     }
 }
 
-/// Adds the net's next connection to what is made, and its shapes to the planes.
-fn keep<P: Plane>(
+/// Adds a connection of the net to what is made, and its shapes to the planes.
+pub fn keep<P: Plane>(
     alloc: Global,
     board: &Board,
     made: &mut Made,
     planes: PlaneSet<P>,
     net: NetId,
-    next: &Made1,
+    conn: &Conn,
 ) -> Result<PlaneSet<P>, NoMemory>
     requires sitting { IsSitting board.now.parts made.old.lists planes }
     requires net { net.0 < length board.now.parts.net_names }
-    requires missing { length (conns_of made.old.lists net) < conns_needed board.now.parts net }
-    requires next { IsNextConnection board.now.parts made.old.lists net next.now }
-    ensures lists { IfOk result (λ _. made.new.lists ≡ with_conn made.old.lists net next.now.conn) }
+    requires next { IsNextWalk board.now.parts made.old.lists net conn.now }
+    ensures lists { IfOk result (λ _. made.new.lists ≡ with_conn made.old.lists net conn.now) }
     ensures sitting { IfOk result (λ set. IsSitting board.now.parts made.new.lists set) }
 {
-    let shapes = shapes_of(alloc, board, net, &next.conn)?;
+    let shapes = shapes_of(alloc, board, net, conn)?;
     let planes = merge(alloc, board, planes, shapes.as_slice())?;
-    made.append(net, copy_of(alloc, &next.conn)?)?;
+    made.append(net, copy_of(alloc, conn)?)?;
     Ok(planes)
 }
 

@@ -5,6 +5,7 @@ use Rattle.std.proofs.lemmas.List.{length-append, length-set, get_or-set_same, g
 use Rattle.std.proofs.lemmas.List.Elements.{All-nil, All-cons, All-head, All-tail, All-append, All-map, All-push, All-set, All-get_or, All-contains, Contains-append_right}
 use Rattle.geo_rect.specs.declared.ids.NetId.{NetId}
 use Rattle.geo_rect.specs.declared.ids.Node.{Node}
+use Rattle.geo_rect.specs.declared.ids.Spot.{Spot}
 use Rattle.board_model.specs.declared.commands.Command.{Command}
 use Rattle.board_model.specs.declared.made.Conn.{Conn}
 use Rattle.board_model.specs.declared.made.Leg.{Leg}
@@ -22,6 +23,8 @@ use Rattle.route_law.specs.declared.replies.Made1.{Made1}
 use Rattle.route_law.specs.declared.replies.Reply.{Reply}
 use Rattle.route_law.specs.declared.replies.Reply.TheVariants as reply
 use Rattle.route_law.specs.declared.replies.Routed.{Routed}
+use Rattle.route_law.specs.Boards.{IsGroundOf}
+use Rattle.route_law.specs.Ground.{Ground}
 use Rattle.route_law.specs.Joins.{IsConnection}
 use Rattle.route_law.specs.Kept.{KeepsRules, IsKept, IsState}
 use Rattle.route_law.specs.Regular.{IsRegularConn}
@@ -33,7 +36,7 @@ use Rattle.step_laws.proofs.Pairs.{AreClose, close_back}
 use Rattle.step_laws.proofs.Shapes.{shapes_with_conn, shapes_without_conns, made_with_conn, made_without_conns}
 
 -- each shape of a net's connection is the net's
-legs_owned : (b : BoardParts) (n : NetId) (v : Node) (legs : List Leg) → All (λ (s : Shape). s.owner ≡ Some n) (legs_shapes b n v legs)
+pub legs_owned : (b : BoardParts) (n : NetId) (v : Node) (legs : List Leg) → All (λ (s : Shape). s.owner ≡ Some n) (legs_shapes b n v legs)
 legs_owned b n v [] = All-nil (λ (s : Shape). s.owner ≡ Some n)
 legs_owned b n v (leg ∷ legs) =
     All-append (λ (s : Shape). s.owner ≡ Some n) (leg_shapes b n v leg) (legs_shapes b n (end_of leg) legs) (of_leg leg) (legs_owned b n (end_of leg) legs)
@@ -95,19 +98,22 @@ module _ (b : BoardParts) (lists : List (List Conn)) (n : NetId) (c : Conn) (l :
     pub conn_kept : length (conns_of lists n) < conns_needed b n → IsKept b after
     conn_kept few = record { rules = rules_kept; few = few_kept few }
 
-pub next_state : (b : BoardParts) (lists : List (List Conn)) (n : NetId) (m : Made1) → IsBoard b → IsState b lists → n.0 < length b.net_names → length (conns_of lists n) < conns_needed b n → IsNextConnection b lists n m → IsState b (with_conn lists n m.conn)
-next_state b lists n m h s l few next =
+-- a walk that joins the net's next pin to what it has is a connection by which the rules stay kept
+pub joined_state : (b : BoardParts) (lists : List (List Conn)) (n : NetId) (c : Conn) (g : Ground) (sources targets : List Spot) → IsBoard b → IsState b lists → n.0 < length b.net_names → length (conns_of lists n) < conns_needed b n → IsGroundOf b (state_shapes b lists) n g → IsConnection b g c sources targets → IsState b (with_conn lists n c)
+joined_state b lists n c g sources targets h s l few of joined =
     let i : n.0 < length lists = omega (arith, l, s.nets) in
-    let joined : IsConnection b next.ground m.conn _ _ = next.least.connection in
-    let clear = legs_clear b next.ground m.conn.start m.conn.legs joined.well_formed.steps joined.walk.walk in
-    let keep : All (KeepsRules b (state_shapes b lists)) (conn_shapes b n m.conn) = legs_keep b (state_shapes b lists) n next.ground h next.is_ground m.conn.start m.conn.legs clear in
-    let regular : IsRegularConn b m.conn = conn_regular b (state_shapes b lists) n next.ground h next.is_ground m.conn joined.well_formed joined.walk.walk in
+    let clear = legs_clear b g c.start c.legs joined.well_formed.steps joined.walk.walk in
+    let keep : All (KeepsRules b (state_shapes b lists)) (conn_shapes b n c) = legs_keep b (state_shapes b lists) n g h of c.start c.legs clear in
+    let regular : IsRegularConn b c = conn_regular b (state_shapes b lists) n g h of c joined.well_formed joined.walk.walk in
     record {
-      nets = length-set lists n.0 (conns_of lists n ++ m.conn ∷ []) ∙ s.nets;
-      well_formed = with_conn_well_formed b lists n m.conn i s.well_formed joined.well_formed;
-      regular = All-set (All (IsRegularConn b)) lists n.0 _ (All-push (IsRegularConn b) (conns_of lists n) m.conn (All-get_or (All (IsRegularConn b)) lists n.0 [] i s.regular) regular) s.regular;
-      kept = conn_kept b lists n m.conn i s.kept (λ x k. All-contains (KeepsRules b (state_shapes b lists)) (conn_shapes b n m.conn) x keep k) few;
+      nets = length-set lists n.0 (conns_of lists n ++ c ∷ []) ∙ s.nets;
+      well_formed = with_conn_well_formed b lists n c i s.well_formed joined.well_formed;
+      regular = All-set (All (IsRegularConn b)) lists n.0 _ (All-push (IsRegularConn b) (conns_of lists n) c (All-get_or (All (IsRegularConn b)) lists n.0 [] i s.regular) regular) s.regular;
+      kept = conn_kept b lists n c i s.kept (λ x k. All-contains (KeepsRules b (state_shapes b lists)) (conn_shapes b n c) x keep k) few;
     }
+
+pub next_state : (b : BoardParts) (lists : List (List Conn)) (n : NetId) (m : Made1) → IsBoard b → IsState b lists → n.0 < length b.net_names → length (conns_of lists n) < conns_needed b n → IsNextConnection b lists n m → IsState b (with_conn lists n m.conn)
+next_state b lists n m h s l few next = joined_state b lists n m.conn next.ground _ _ h s l few next.is_ground next.least.connection
 
 module _ (b : BoardParts) (lists : List (List Conn)) (n : NetId) (l : n.0 < length lists) (kept : IsKept b lists) where
   abbrev cleared : List (List Conn)

@@ -1,4 +1,4 @@
-use Rattle.std.proofs.Common.{◌≡◌, ◌<◌, List, length, All, sym, ◌∙◌, ap, subst}
+use Rattle.std.proofs.Common.{◌<◌, List, length, All, sym, ◌∙◌, subst}
 use Rattle.std.proofs.lemmas.Result.{IfOk-weaker}
 use Rattle.geo_rect.specs.declared.ids.Spot.{Spot}
 use Rattle.strip_moves.specs.Boxes.{IsBoardBox}

@@ -1,11 +1,11 @@
-use Rattle.std.proofs.Common.{◌≡◌, List, ◌++◌, All, sym, ◌∙◌, ap, subst}
+use Rattle.std.proofs.Common.{List, ◌++◌, All, sym, ◌∙◌, ap, subst}
 use Rattle.std.specs.Prelude.{IsSome}
 use Rattle.std.specs.List.{flat_map}
 use Rattle.std.proofs.lemmas.Result.{IfOk-weaker}
 use Rattle.board_model.specs.declared.made.Conn.{Conn}
 use Rattle.board_model.specs.declared.shapes.Shape.{Shape}
 use Rattle.board_model.specs.Known.{IsKnown}
-use Rattle.board_model.specs.Made.{conns_of, without_conns}
+use Rattle.board_model.specs.Made.{without_conns}
 use Rattle.board_model.specs.Shapes.{conn_shapes, state_shapes}
 use Rattle.plane_set.specs.Standing.{PlaneTable, StandsFor}
 use Rattle.session_core.specs.Sessions.{IsSitting}

@@ -1,4 +1,4 @@
-use Rattle.std.proofs.Common.{◌≡◌, ℕ, ◌+◌, ◌++◌, ◌∷◌, [], List, length, sym, ◌∙◌, ap, subst, arith}
+use Rattle.std.proofs.Common.{◌≡◌, ℕ, ◌+◌, List, length, sym, ◌∙◌, ap, subst, arith}
 use Rattle.route_law.specs.declared.replies.Routed.{Routed}
 use Rattle.route_law.specs.Routing.{AreRoutedFrom, net_at}
 use Rattle.route_law.proofs.Running.{routed-next}

@@ -1,4 +1,4 @@
-use Rattle.std.proofs.Common.{◌≡◌, is_some, false, sym, ◌∙◌, arith}
+use Rattle.std.proofs.Common.{sym, ◌∙◌, arith}
 use Rattle.session_core.specs.Attempts.{IsOneMore}
 use Rattle.session_core.proofs.Turning.{turn_made, made_on, number_on, count_on, net_listed}
 use Rattle.session_core.proofs.routes.route_net.Goals as goal
