@@ -35,6 +35,7 @@ pub fn split_check(bytes: &[u8]) -> Option<Split>
     ensures split { result ≡ split_of bytes.now }
     ensures ordered { IfSome result (λ s. s.text_end ≤ s.replies_start) }
     ensures within { IfSome result (λ s. s.replies_start ≤ length bytes.now) }
+    ensures few { IfSome result (λ s. s.lines ≤ length bytes.now) }
 {
     let mut rest = bytes;
     let mut passed = 0;

@@ -8,8 +8,6 @@ mod conns;
 mod printing;
 mod routes;
 mod strips;
-#[cfg(test)]
-mod tests;
 mod violations;
 mod words;
 
