@@ -21,4 +21,4 @@ pub use inputs::Input;
 pub use laws::{refusals_are_first, splits_are_first};
 pub use reading::read_input;
 pub use refusals::{ReadInput, Refusal, RefusalKind};
-pub use splits::{Split, split_check};
+pub use splits::{Split, count_lines, split_check};

@@ -1,4 +1,5 @@
 ghost use Rattle.std.specs.Prelude.{◌≡◌, ◌≤◌, length, IfSome};
+ghost use Rattle.board_reader.specs.Lines.{lines};
 ghost use Rattle.board_reader.specs.Splits.{is_mark, split_of};
 
 use crate::lines::{next_piece, without_return};
@@ -52,4 +53,18 @@ pub fn split_check(bytes: &[u8]) -> Option<Split>
         passed += 1;
     }
     None
+}
+
+/// The number of lines of a text. Takes no memory.
+pub fn count_lines(bytes: &[u8]) -> u64
+    ensures { result ≡ length (lines bytes.now) }
+{
+    let mut rest = bytes;
+    let mut passed = 0;
+    while !rest.is_empty() {
+        let (_, after) = next_piece(rest);
+        rest = after;
+        passed += 1;
+    }
+    passed
 }
