@@ -1,15 +1,18 @@
 -- Rows of planes, and the same rows as contracts see them.
-use Rattle.std.proofs.Common.{◌≡◌, ℕ, ◌<◌, List, [], ◌∷◌, length, map, get_or, All, Some, refl, sym, ◌∙◌, ap, subst, arith}
-use Rattle.std.specs.Prelude.{slice_get}
+use Rattle.std.proofs.Common.{◌≡◌, ℕ, ◌<◌, ◌↔◌, List, [], ◌∷◌, length, map, get_or, All, Some, refl, sym, ◌∙◌, ap, subst, arith}
+use Rattle.std.specs.Prelude.{slice_get, Contains}
 use Rattle.std.proofs.lemmas.Option.{slice_get-get_or, slice_get_read, get_or_from_slice_get}
 use Rattle.std.proofs.lemmas.List.{length-map}
 use Rattle.std.proofs.lemmas.List.Elements.{All-nil, All-cons, All-head, All-tail, All-map, All-weaker}
 use Rattle.board_model.specs.declared.parts.BoardParts.{BoardParts}
 use Rattle.board_model.specs.declared.shapes.Shape.{Shape}
+use Rattle.board_model.specs.Labels.{PlaneRule}
+use Rattle.board_model.proofs.LabelLaws.{same_hits}
 use Rattle.plane_set.specs.declared.families.Family.{Family}
+use Rattle.plane_set.specs.declared.families.Family.TheVariants.{Wires, Vias}
 use Rattle.plane_set.specs.Drawings.{Drawing, drawn_rows, IsBoardArea, IsBoardPlane, Shows}
 use Rattle.plane_set.specs.Families.{rule_in, class_at, IsRow, AreRows, AreBoardPlanes, AreBoardRows, HaveAllClasses}
-use Rattle.plane_set.specs.Standing.{PlaneTable, HasPlanes}
+use Rattle.plane_set.specs.Standing.{PlaneTable, HasPlanes, StandsFor}
 use Rattle.plane_set.proofs.Places.{each_mapped, each_unmapped, get_mapped}
 
 all_unmapped : {X Y : Type 0} (P : Y → Type 0) (f : X → Y) (xs : List X) → All P (map f xs) → All (λ x. P (f x)) xs
@@ -94,3 +97,22 @@ module _ {R A : Type 0} (planes_of : R → List A) (draw : A → Drawing) (rows 
       let inside : m < length (planes_of row) = omega arith in
       subst (λ (r : List Drawing). slice_get r m ≡ Some (draw x)) (sym at)
       (get_mapped draw (planes_of row) m x (slice_get_read (planes_of row) (length (planes_of row)) m x refl inside d))
+
+-- planes that show shapes show each list with the same members
+module _ (b : BoardParts) (xs ys : List Shape) (same : (s : Shape) → Contains xs s ↔ Contains ys s) where
+  shows_members : (rule : PlaneRule) (d : Drawing) → Shows b rule xs d → Shows b rule ys d
+  shows_members rule d h = record {
+    region = h.region;
+    labels = λ p k. h.labels p k ∙ same_hits b rule p xs ys (λ s _. same s);
+    canonical = h.canonical;
+  }
+
+  rows_members : (f : Family) (rows : List (List Drawing)) → AreRows (λ (row : List Drawing). row) (λ (d : Drawing). d) b f xs rows → AreRows (λ (row : List Drawing). row) (λ (d : Drawing). d) b f ys rows
+  rows_members f rows h n row e m d k = shows_members (rule_in b f n (class_at m)) d (h n row e m d k)
+
+pub stands_for_members : (b : BoardParts) (xs ys : List Shape) (set : PlaneTable) → StandsFor b xs set → ((s : Shape) → Contains xs s ↔ Contains ys s) → StandsFor b ys set
+stands_for_members b xs ys set h same = record {
+  planes = h.planes;
+  wires = rows_members b xs ys same Wires set.wires h.wires;
+  vias = rows_members b xs ys same Vias set.vias h.vias;
+}
