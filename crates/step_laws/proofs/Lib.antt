@@ -1,0 +1,4 @@
+pub mod Broken
+pub mod Keeping
+pub mod Regular
+pub mod Shapes
