@@ -16,7 +16,7 @@ abbrev State : Type 0
 State = List (List Conn)
 
 module _ (b : BoardParts) where
-  made_determined : (old : State) (n : NetId) (ms : List Made1) (x y : State) → AreMadeInTurn b old n ms x → AreMadeInTurn b old n ms y → x ≡ y
+  pub made_determined : (old : State) (n : NetId) (ms : List Made1) (x y : State) → AreMadeInTurn b old n ms x → AreMadeInTurn b old n ms y → x ≡ y
   made_determined old n [] x y h k = h ∙ sym k
   made_determined old n (m ∷ ms) x y h k = made_determined (with_conn old n m.conn) n ms x y h.1 k.1
 

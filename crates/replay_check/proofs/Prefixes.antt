@@ -8,6 +8,7 @@ use Rattle.board_model.specs.declared.parts.BoardParts.{BoardParts}
 use Rattle.route_law.specs.declared.replies.Reply.{Reply}
 use Rattle.route_law.specs.Steps.{IsFirstWrong, IsRun, IsRunFrom, IsStep, nothing_made}
 use Rattle.route_law.proofs.Running.{run-next}
+use Rattle.replay_check.specs.Runs.{HasRun}
 use Rattle.replay_check.proofs.Determined.{run_determined}
 
 abbrev State : Type 0
@@ -56,15 +57,9 @@ module _ (b : BoardParts) where
       let P : State → Type 0 = λ s. IsStep b s c r new in
       wrong new (subst P (run_determined b old cs rs e.mid mid e.before h) e.last)
 
--- the first commands and replies, up to this number, lead from nothing made to this state
-pub record HasRun (b : BoardParts) (cs : List Command) (rs : List Reply) (i : ℕ) (lists : State) : Type 0 where
-  pub commands : i ≤ length cs
-  pub replies : i ≤ length rs
-  pub run : IsRunFrom b (nothing_made b) (take i cs) (take i rs) lists
-
 module _ (b : BoardParts) (cs : List Command) (rs : List Reply) where
   pub run_begins : HasRun b cs rs 0 (nothing_made b)
-  run_begins = record { commands = omega arith; replies = omega arith; run = refl }
+  run_begins = record { some_commands = omega arith; some_replies = omega arith; run = refl }
 
   module _ (i : ℕ) (lists : State) (h : HasRun b cs rs i lists) where
     each_before : (m : ℕ) → m < i + 1 → IsRun b (take m cs) (take m rs)
@@ -113,8 +108,8 @@ module _ (b : BoardParts) (cs : List Command) (rs : List Reply) where
           let P : List Command → Type 0 = λ ds. IsRunFrom b (nothing_made b) ds (take i rs ++ r ∷ []) new in
           let Q : List Reply → Type 0 = λ ss. IsRunFrom b (nothing_made b) (take (i + 1) cs) ss new in
           record {
-            commands = omega (arith, in_commands);
-            replies = omega (arith, in_replies);
+            some_commands = omega (arith, in_commands);
+            some_replies = omega (arith, in_replies);
             run = subst Q (sym (one_more rs r in_replies is_reply)) (subst P (sym (one_more cs c in_commands is_command)) k);
           }
 

@@ -3,5 +3,13 @@
 #![tactic(auto)]
 
 mod ends;
+mod laws;
+mod listed;
+mod places;
+mod routes;
+mod states;
+mod steps;
+mod verdicts;
 
 pub use ends::{ReplayEnd, replay, replay_commands};
+pub use laws::a_wrong_reply_is_no_run;
