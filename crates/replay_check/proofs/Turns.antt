@@ -68,21 +68,21 @@ module _ (b : BoardParts) (old : State) (rs : List Routed) where
   routed_ends i now l h = let P : List Routed → Type 0 = λ xs. AreRoutedFrom b i now xs now in h.back now (subst P (sym (drop_all i rs l)) refl)
 
   module _ (i : ℕ) (r : Routed) (l : i < length rs) (e : get_or rs i r ≡ r) (now : State) (h : AreRoutedSoFar b old rs i now) where
-    abbrev Left : State → List Routed → Type 0
-    Left new xs = AreRoutedFrom b i now xs new
+    abbrev Rest : State → List Routed → Type 0
+    Rest new xs = AreRoutedFrom b i now xs new
 
     pub routed_more : (mid : State) → r.net ≡ net_at i → IsRouted b now r mid → AreRoutedSoFar b old rs (i + 1) mid
     routed_more mid net k = record {
       forth = λ new all.
-          let parts : Left new (r ∷ drop (i + 1) rs) = subst (Left new) (left_from rs i r l e) (h.forth new all) in
+          let parts : Rest new (r ∷ drop (i + 1) rs) = subst (Rest new) (left_from rs i r l e) (h.forth new all) in
           let P : State → Type 0 = λ s. AreRoutedFrom b (i + 1) s (drop (i + 1) rs) new in
           subst P (routed_determined b now r parts.1 mid parts.2 k) parts.3;
-      back = λ new all. h.back new (subst (Left new) (sym (left_from rs i r l e)) (net, mid, k, all));
+      back = λ new all. h.back new (subst (Rest new) (sym (left_from rs i r l e)) (net, mid, k, all));
     }
 
     pub routed_no_more : (r.net ≡ net_at i → (new : State) → IsRouted b now r new → ⊥) → (new : State) → AreRoutedFrom b 0 old rs new → ⊥
     routed_no_more wrong new all =
-        let parts : Left new (r ∷ drop (i + 1) rs) = subst (Left new) (left_from rs i r l e) (h.forth new all) in
+        let parts : Rest new (r ∷ drop (i + 1) rs) = subst (Rest new) (left_from rs i r l e) (h.forth new all) in
         wrong parts.0 parts.1 parts.2
 
 -- what is told of the rest has the right counts
@@ -103,3 +103,7 @@ pub rest_here : (b : BoardParts) (old : State) (r : Routed) (now new : State) �
 rest_here b old r now new h k =
     let P : State → Type 0 = λ s. IsDoneOrStuck b s r.net r.missing (length r.made) r.none in
     subst P (made_determined b old r.net r.made new now k.made h) k.rest
+
+-- where fewer were made than were missing, the net lacks one still
+pub few_lack : (after before made missing needed : ℕ) → missing ≡ needed - before → after ≡ before + made → made < missing → after < needed
+few_lack after before made missing needed e f l = omega (arith, e, f, l)

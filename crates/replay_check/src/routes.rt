@@ -145,7 +145,8 @@ fn is_rest<P: Plane>(
     requires state { IsUnderWay board.now.parts state.now.made.lists state.now.planes }
     requires net { r.now.net.0 < length board.now.parts.net_names }
     requires counted { AreCounted r.now.missing (length r.now.made) r.now.none }
-    requires lacking { length (conns_of state.now.made.lists r.now.net) + r.now.missing ≤ conns_needed board.now.parts r.now.net + length r.now.made }
+    requires lacking { length r.now.made < r.now.missing
+        → length (conns_of state.now.made.lists r.now.net) < conns_needed board.now.parts r.now.net }
     ensures { IfOk result (λ yes. IsTrue yes
         ↔ IsDoneOrStuck board.now.parts state.now.made.lists r.now.net r.now.missing (length r.now.made) r.now.none) }
 {

@@ -11,7 +11,7 @@ ghost use Rattle.route_law.specs.Routing.{conns_needed, AreRoutedFrom};
 ghost use Rattle.route_law.specs.Steps.{command_of, items_from, AreWireStrips, IsAnswer, IsStep};
 ghost use Rattle.replay_check.specs.States.{IsUnderWay};
 
-use crate::listed::{are_items_of, are_same_strips, are_same_violations};
+use crate::listed::{are_items_of, are_same};
 use crate::routes::{all_routed, needed, routed};
 use crate::states::UnderWay;
 use board_model::{Board, Command, Made, Violation};
@@ -67,7 +67,7 @@ fn are_violations(
         ↔ (found.now ≡ violations_of board.now.parts (state_shapes board.now.parts made.now.lists))) }
 {
     let all = violations(alloc, board, made)?;
-    Ok(are_same_violations(found, all.as_slice()))
+    Ok(are_same(found, all.as_slice()))
 }
 
 /// Whether these are the strips of the wire plane of the layer and the class.
@@ -86,7 +86,7 @@ fn are_wire_strips<P: Plane>(
 {
     let plane = state.planes.wire(layer, class);
     let all = plane.strips_in(alloc, plane.domain())?;
-    Ok(are_same_strips(strips, all.as_slice()))
+    Ok(are_same(strips, all.as_slice()))
 }
 
 /// The state as it is, if what is told of it holds.
