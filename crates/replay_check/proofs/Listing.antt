@@ -27,12 +27,14 @@ pub not_both : (b : Bool) → IsTrue b → b ≡ false → ⊥
 not_both b t f = let P : Bool → Type 0 = λ x. IsTrue x in never ⊥ (subst P f t)
 
 -- one item more of a list
-pub one_more : {A : Type 0} (xs : List A) (i : ℕ) (x : A) → i < length xs → get_or xs i x ≡ x → take (i + 1) xs ≡ take i xs ++ x ∷ []
-one_more {A} xs i x l e =
-    let P : A → Type 0 = λ y. take (suc i) xs ≡ take i xs ++ (y ∷ []) in
-    let Q : ℕ → Type 0 = λ m. take m xs ≡ take i xs ++ (x ∷ []) in
+pub one_more_at : {A : Type 0} (xs : List A) (i : ℕ) (d : A) → i < length xs → take (i + 1) xs ≡ take i xs ++ get_or xs i d ∷ []
+one_more_at {A} xs i d l =
     let next : suc i ≡ i + 1 = omega arith in
-    subst Q next (subst P e (take-suc xs i x l))
+    let Q : ℕ → Type 0 = λ m. take m xs ≡ take i xs ++ (get_or xs i d ∷ []) in
+    subst Q next (take-suc xs i d l)
+
+pub one_more : {A : Type 0} (xs : List A) (i : ℕ) (x : A) → i < length xs → get_or xs i x ≡ x → take (i + 1) xs ≡ take i xs ++ x ∷ []
+one_more {A} xs i x l e = let P : A → Type 0 = λ y. take (i + 1) xs ≡ take i xs ++ (y ∷ []) in subst P e (one_more_at xs i x l)
 
 module _ {A : Type 0} (xs : List A) (i : ℕ) (x : A) (in_xs : i < length xs) (is_x : x ≡ get_or xs i x) where
   module _ (ys : List A) (y : A) (in_ys : i < length ys) (is_y : y ≡ get_or ys i y) where
@@ -51,11 +53,8 @@ module _ {A : Type 0} (xs : List A) (i : ℕ) (x : A) (in_xs : i < length xs) (i
 
 -- what holds of the first items and of the next one holds of them all
 pub all_after : {A : Type 0} (xs : List A) (i : ℕ) → i < length xs → (P : A → Type 0) → All P (take i xs) → (d : A) → P (get_or xs i d) → All P (take (i + 1) xs)
-all_after {A} xs i l P h d p =
-    let next : suc i ≡ i + 1 = omega arith in
-    let Q : ℕ → Type 0 = λ m. All P (take m xs) in
-    let more = All-append P (take i xs) (get_or xs i d ∷ []) h (All-cons P (get_or xs i d) [] p (All-nil P)) in
-    subst Q next (subst (All P) (sym (take-suc xs i d l)) more)
+all_after xs i l P h d p =
+    subst (All P) (sym (one_more_at xs i d l)) (All-append P (take i xs) (get_or xs i d ∷ []) h (All-cons P (get_or xs i d) [] p (All-nil P)))
 
 pub all_taken : {A : Type 0} (xs ys : List A) (i : ℕ) → length xs ≡ length ys → length xs ≤ i → take i xs ≡ take i ys → xs ≡ ys
 all_taken xs ys i e l h = sym (take_all i xs l) ∙ h ∙ take_all i ys (omega (arith, e, l))

@@ -94,14 +94,7 @@ module _ (b : BoardParts) (cs : List Command) (rs : List Reply) where
         let Q : List Reply → Type 0 = λ ss. IsRunFrom b (nothing_made b) cs ss lists in
         (lists, subst Q (take_all i rs (omega (arith, f))) (subst P (take_all i cs (omega (arith, e))) h.run))
 
-    module _ (c : Command) (r : Reply) (in_commands : i < length cs) (in_replies : i < length rs) (is_command : get_or cs i c ≡ c) (is_reply : get_or rs i r ≡ r) where
-      one_more : {A : Type 0} (xs : List A) (x : A) → i < length xs → get_or xs i x ≡ x → take (i + 1) xs ≡ take i xs ++ x ∷ []
-      one_more {A} xs x l e =
-          let P : A → Type 0 = λ y. take (suc i) xs ≡ take i xs ++ (y ∷ []) in
-          let Q : ℕ → Type 0 = λ m. take m xs ≡ take i xs ++ (x ∷ []) in
-          let next : suc i ≡ i + 1 = omega arith in
-          subst Q next (subst P e (take-suc xs i x l))
-
+    module _ (c : Command) (r : Reply) (in_commands : i < length cs) (in_replies : i < length rs) (next_command : take (i + 1) cs ≡ take i cs ++ c ∷ []) (next_reply : take (i + 1) rs ≡ take i rs ++ r ∷ []) where
       pub run_grows : (new : State) → IsStep b lists c r new → HasRun b cs rs (i + 1) new
       run_grows new step =
           let k = run-next b (nothing_made b) lists new (take i cs) c (take i rs) r h.run step in
@@ -110,15 +103,14 @@ module _ (b : BoardParts) (cs : List Command) (rs : List Reply) where
           record {
             some_commands = omega (arith, in_commands);
             some_replies = omega (arith, in_replies);
-            run = subst Q (sym (one_more rs r in_replies is_reply)) (subst P (sym (one_more cs c in_commands is_command)) k);
+            run = subst Q (sym next_reply) (subst P (sym next_command) k);
           }
 
       pub is_wrong : ((new : State) → IsStep b lists c r new → ⊥) → IsFirstWrong b cs rs (i + 1)
       is_wrong wrong = wrong_next (λ k.
           let P : List Command → Type 0 = λ ds. IsRunFrom b (nothing_made b) ds (take (i + 1) rs) k.0 in
           let Q : List Reply → Type 0 = λ ss. IsRunFrom b (nothing_made b) (take i cs ++ c ∷ []) ss k.0 in
-          no_last b (nothing_made b) lists (take i cs) c (take i rs) r h.run wrong k.0
-          (subst Q (one_more rs r in_replies is_reply) (subst P (one_more cs c in_commands is_command) k.1)))
+          no_last b (nothing_made b) lists (take i cs) c (take i rs) r h.run wrong k.0 (subst Q next_reply (subst P next_command k.1)))
 
   -- where some reply is the first wrong one, there is no run
   pub wrong_is_no_run : (n : ℕ) → IsFirstWrong b cs rs n → IsRun b cs rs → ⊥
