@@ -1,3 +1,3 @@
 pub mod Ended
 pub mod Replied
-pub mod Strips
+pub mod Sent

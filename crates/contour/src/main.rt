@@ -11,11 +11,11 @@ mod inputs;
 mod lines;
 #[cfg(test)]
 mod reader_tests;
-mod replies;
 mod requests;
 #[cfg(test)]
+mod route_tests;
+#[cfg(test)]
 mod tests;
-mod texts;
 
 use crate::calls::contour;
 use crate::endings::Status;

@@ -161,7 +161,7 @@ fn the_strips_of_a_plane_are_listed(rt: HostRuntime) -> Result<(), Fail> {
 fn a_refused_text_is_named_by_its_line(rt: HostRuntime) -> Result<(), Fail> {
     let alloc = rt.alloc();
     for (number, line, err) in [
-        (10, "route a", "line 10 kind 2\n"),
+        (10, "route z", "line 10 kind 5\n"),
         (4, "", "line 8 kind 8\n"),
         (8, "pin a 34 9 41 11 top top", "line 8 kind 4\n"),
         (4, "rule top sig 1 0", "line 4 kind 4\n"),
@@ -190,13 +190,14 @@ fn a_refused_text_is_named_by_its_line(rt: HostRuntime) -> Result<(), Fail> {
 
 #[test]
 fn other_words_are_refused(rt: HostRuntime) -> Result<(), Fail> {
-    let rows: [&[&str]; 12] = [
+    let rows: [&[&str]; 13] = [
         &[],
         &["go"],
         &["run", "run"],
         &["run", "x"],
         &["run", "--quiet", "--quiet"],
         &["--quiet", "run"],
+        &["--quiet"],
         &["gen"],
         &["gen", "0"],
         &["gen", "007"],

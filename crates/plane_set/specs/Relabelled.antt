@@ -1,5 +1,5 @@
 -- What the planes become where the labels near one shape are made again.
-use Rattle.std.specs.Prelude.{◌≡◌, ℕ, List, [], ◌++◌, Some, slice_get, slice_index_or}
+use Rattle.std.specs.Prelude.{◌≡◌, ℕ, List, ◌++◌}
 use Rattle.geo_rect.specs.declared.shapes.Point.{Point}
 use Rattle.geo_rect.specs.Plane.{HasPoint}
 use Rattle.board_model.specs.declared.parts.BoardParts.{BoardParts}

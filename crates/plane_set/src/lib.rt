@@ -11,6 +11,7 @@ mod frames;
 mod joins;
 mod laws;
 mod passing;
+mod rests;
 mod sets;
 #[cfg(test)]
 mod tests;

@@ -11,6 +11,7 @@ ghost use Rattle.plane_set.specs.Standing.{HasPlanes, StandsFor};
 use crate::adds::add_to_rows;
 use crate::builds::build_rows;
 use crate::families::Family;
+use crate::rests::rest_in_rows;
 use board_model::{Board, Made, Shape, all_shapes};
 use geo_rect::{ClassId, KindId, LayerId, NoMemory};
 use plane_core::Plane;
@@ -84,7 +85,10 @@ impl<P: Plane> PlaneSet<P> {
         ensures planes { IfOk result (λ set. HasPlanes board.now.parts set) }
         ensures labels { IfOk result (λ set. AreRelabelled board.now.parts gone.now shapes.now self set) }
     {
-        Err(NoMemory)
+        let PlaneSet { wires, vias } = self;
+        let wires = rest_in_rows(alloc, board, Family::Wires, wires, gone, shapes)?;
+        let vias = rest_in_rows(alloc, board, Family::Vias, vias, gone, shapes)?;
+        Ok(PlaneSet { wires, vias })
     }
 
     /// The plane of the wires of class `c` on the layer `l`.

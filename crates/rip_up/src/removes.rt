@@ -26,5 +26,9 @@ pub fn remove<P: Plane>(
     requires board { BeginWithBoard board.now.parts stay.now }
     ensures { IfOk result (λ set. StandsFor board.now.parts stay.now set) }
 {
-    Err(NoMemory)
+    let mut rested = planes;
+    for shape in gone {
+        rested = rested.rest(alloc, board, shape, stay)?;
+    }
+    Ok(rested)
 }

@@ -24,5 +24,9 @@ pub fn merge<P: Plane>(
         → StandsFor board.now.parts old planes
         → StandsFor board.now.parts (old ++ shapes.now) set) }
 {
-    Err(NoMemory)
+    let mut merged = planes;
+    for shape in shapes {
+        merged = merged.add(alloc, board, shape)?;
+    }
+    Ok(merged)
 }

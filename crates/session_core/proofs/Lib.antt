@@ -1,0 +1,4 @@
+pub mod Answering
+pub mod Listing
+pub mod OnBoard
+pub mod Turning
