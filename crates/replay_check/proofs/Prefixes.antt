@@ -1,6 +1,6 @@
 -- Runs over the first commands and replies.
-use Rattle.std.proofs.Common.{ℕ, zero, suc, ◌≡◌, ◌+◌, ◌<◌, ◌≤◌, List, [], ◌∷◌, ◌++◌, length, take, get_or, refl, sym, ◌∙◌, ap, subst, arith}
-use Rattle.std.proofs.Math.Seq.{take-suc}
+use Rattle.std.proofs.Common.{ℕ, zero, suc, ◌≡◌, ◌+◌, ◌<◌, ◌≤◌, ◌⊎◌, inl, inr, List, [], ◌∷◌, ◌++◌, length, take, get_or, refl, sym, ◌∙◌, ap, subst, arith}
+use Rattle.std.proofs.lemmas.Bool.{cases_lt}
 use Rattle.std.proofs.lemmas.List.{take_all, take-take, length-take-le}
 use Rattle.board_model.specs.declared.commands.Command.{Command}
 use Rattle.board_model.specs.declared.made.Conn.{Conn}
@@ -115,3 +115,12 @@ module _ (b : BoardParts) (cs : List Command) (rs : List Reply) where
   -- where some reply is the first wrong one, there is no run
   pub wrong_is_no_run : (n : ℕ) → IsFirstWrong b cs rs n → IsRun b cs rs → ⊥
   wrong_is_no_run n w k = w.wrong (run_take b n (nothing_made b) k.0 cs rs k.1)
+
+  -- no two replies are the first wrong one
+  pub one_is_first : (m n : ℕ) → IsFirstWrong b cs rs m → IsFirstWrong b cs rs n → m ≡ n
+  one_is_first m n h k = by (cases_lt m n) (cases_lt n m)
+    where
+      by : (m < n) ⊎ (n ≤ m) → (n < m) ⊎ (m ≤ n) → m ≡ n
+      by (inl l) d = absurd (h.wrong (k.before m l))
+      by (inr l) (inl d) = absurd (k.wrong (h.before n d))
+      by (inr l) (inr d) = omega (arith, l, d)

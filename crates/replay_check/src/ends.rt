@@ -37,8 +37,8 @@ pub fn replay<P: Plane>(
     replay_commands::<P>(alloc, &input.board, input.commands.as_slice(), replies)
 }
 
-/// Whether the replies are those of a run over the commands, whose ids are in the board. It makes no
-/// search.
+/// Whether the replies are those of a run over the commands, whose ids are in the board. It makes
+/// no search.
 pub fn replay_commands<P: Plane>(
     alloc: Global,
     board: &Board,
@@ -61,8 +61,8 @@ pub fn replay_commands<P: Plane>(
     Ok(ReplayEnd::Yes)
 }
 
-/// The state after the reply of number `i`, from 0, if there is a command that it answers, and it is the
-/// right answer.
+/// The state after the reply of number `i`, from 0, if there is a command that it answers, and it
+/// is the right answer.
 fn turn<P: Plane>(
     alloc: Global,
     board: &Board,

@@ -1,5 +1,5 @@
-//! Whether replies are those of a run over a board's commands, decided from the replies alone, without
-//! a search.
+//! Whether replies are those of a run over a board's commands, decided from the replies alone,
+//! without a search.
 #![tactic(auto)]
 
 mod ends;

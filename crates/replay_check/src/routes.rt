@@ -98,7 +98,8 @@ fn make_one<P: Plane>(
     Ok(Some(state.with(alloc, board, net, &m.conn)?))
 }
 
-/// The state with these connections, if each is the next one of the net in its turn. The net lacks as many.
+/// The state with these connections, if each is the next one of the net in its turn. The net
+/// lacks as many.
 fn make_all<P: Plane>(
     alloc: Global,
     board: &Board,
@@ -134,8 +135,8 @@ fn are_counted(missing: u64, made: usize, none: &Option<Fail>) -> bool
     }
 }
 
-/// Whether the rest is so, where the counts are right: nothing is missing, or the next connection of the
-/// net, which lacks one, has no route.
+/// Whether the rest is so, where the counts are right: nothing is missing, or the next connection
+/// of the net, which lacks one, has no route.
 fn is_rest<P: Plane>(
     alloc: Global,
     board: &Board,
@@ -207,7 +208,8 @@ pub fn all_routed<P: Plane>(
     Ok(Some(state))
 }
 
-/// The state to which the routing of the net of number `i` leads, if this block tells of it, and rightly.
+/// The state to which the routing of the net of number `i` leads, if this block tells of it, and
+/// rightly.
 fn routed_at<P: Plane>(
     alloc: Global,
     board: &Board,

@@ -119,7 +119,8 @@ fn ripped<P: Plane>(
     Ok(Some(state.without(alloc, board, net)?))
 }
 
-/// The state to which the routing of every net leads, if there is a block for each and what is told is so.
+/// The state to which the routing of every net leads, if there is a block for each and what is
+/// told is so.
 fn each_routed<P: Plane>(
     alloc: Global,
     board: &Board,
@@ -139,7 +140,8 @@ fn each_routed<P: Plane>(
     all_routed(alloc, board, state, blocks)
 }
 
-/// The state to which the reply leads, if what it tells is so. What its command names is in the board.
+/// The state to which the reply leads, if what it tells is so. What its command names is in the
+/// board.
 fn answered<P: Plane>(
     alloc: Global,
     board: &Board,
@@ -172,8 +174,8 @@ fn answered<P: Plane>(
     }
 }
 
-/// The state to which the command leads with this reply, if it is the right one. What the command names
-/// is in the board.
+/// The state to which the command leads with this reply, if it is the right one. What the command
+/// names is in the board.
 pub fn step<P: Plane>(
     alloc: Global,
     board: &Board,
