@@ -8,14 +8,12 @@ use Rattle.geo_rect.specs.declared.ids.Spot.{Spot}
 use Rattle.board_model.specs.declared.made.Conn.{Conn}
 use Rattle.board_model.specs.declared.made.Leg.{Leg}
 use Rattle.board_model.specs.declared.parts.BoardParts.{BoardParts}
-use Rattle.board_model.specs.declared.shapes.Shape.{Shape}
 use Rattle.board_model.specs.Boxes.{source_boxes}
 use Rattle.board_model.specs.Rules.{IsBoard}
 use Rattle.board_model.specs.Shapes.{place_of, end_of, state_shapes}
 use Rattle.board_model.specs.WellFormed.{IsPlace, AreSteps, IsWellFormed}
 use Rattle.cert_check.specs.Verdicts.{IsMatch, IsGood}
 use Rattle.plane_set.specs.Standing.{PlaneTable}
-use Rattle.route_law.specs.declared.certs.Cert.{Cert}
 use Rattle.route_law.specs.declared.replies.Fail.{Fail}
 use Rattle.route_law.specs.declared.replies.Made1.{Made1}
 use Rattle.route_law.specs.Boards.{IsGroundOf}

@@ -1,5 +1,5 @@
 -- The strips that a wire plane of a state finds in its whole region are the ones that a reply must list.
-use Rattle.std.proofs.Common.{ℤ, pos, ◌≡◌, ◌≤ℤ◌, ◌↔◌, List, sym, subst, arith}
+use Rattle.std.proofs.Common.{◌≡◌, ◌↔◌, List, sym, subst, arith}
 use Rattle.std.proofs.lemmas.Int.{ints, clamps}
 use Rattle.geo_rect.specs.declared.ids.ClassId.{ClassId}
 use Rattle.geo_rect.specs.declared.ids.LayerId.{LayerId}

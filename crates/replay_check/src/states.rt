@@ -57,12 +57,7 @@ impl<P: Plane> UnderWay<P> {
     }
 
     /// The state without the connections of the net. After `NoMemory` the state is gone.
-    pub fn without(
-        self,
-        alloc: Global,
-        board: &Board,
-        net: NetId,
-    ) -> Result<UnderWay<P>, NoMemory>
+    pub fn without(self, alloc: Global, board: &Board, net: NetId) -> Result<UnderWay<P>, NoMemory>
         requires state { IsUnderWay board.now.parts self.made.lists self.planes }
         requires net { net.0 < length board.now.parts.net_names }
         ensures made { IfOk result (λ s. s.made.lists ≡ without_conns self.made.lists net) }

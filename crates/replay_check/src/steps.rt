@@ -167,8 +167,7 @@ fn answered<P: Plane>(
             Ok(kept(state, holds))
         }
         Reply::Strips(layer, class, strips) => {
-            let holds =
-                are_wire_strips(alloc, board, &state, *layer, *class, strips.as_slice())?;
+            let holds = are_wire_strips(alloc, board, &state, *layer, *class, strips.as_slice())?;
             Ok(kept(state, holds))
         }
     }

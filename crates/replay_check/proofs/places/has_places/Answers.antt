@@ -1,4 +1,4 @@
-use Rattle.std.proofs.Common.{◌≡◌, List, All, get_or, take, refl, sym, ◌∙◌, ap, subst}
+use Rattle.std.proofs.Common.{List, All, refl, ◌∙◌, subst}
 use Rattle.std.proofs.lemmas.List.{take_all}
 use Rattle.geo_rect.specs.declared.ids.Node.{Node}
 use Rattle.board_model.specs.declared.made.Leg.{Leg}

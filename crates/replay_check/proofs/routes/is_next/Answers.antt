@@ -1,4 +1,4 @@
-use Rattle.std.proofs.Common.{ℕ, ◌≡◌, ◌+◌, List, length, ap, ◌∙◌}
+use Rattle.std.proofs.Common.{ℕ, ◌+◌, List, length, ap, ◌∙◌}
 use Rattle.std.proofs.lemmas.Result.{IfOk-weaker}
 use Rattle.board_model.specs.declared.made.Conn.{Conn}
 use Rattle.replay_check.proofs.Listing.{not_so, not_true}

@@ -1,4 +1,4 @@
-use Rattle.std.proofs.Common.{◌≡◌, ◌<◌, ◌↔◌, Option, Some, length, IsTrue, sym, subst}
+use Rattle.std.proofs.Common.{◌<◌, ◌↔◌, Option, length, IsTrue, sym, subst}
 use Rattle.std.proofs.lemmas.Result.{IfOk-weaker}
 use Rattle.route_law.specs.declared.replies.Fail.{Fail}
 use Rattle.route_law.specs.Routing.{IsDoneOrStuck}

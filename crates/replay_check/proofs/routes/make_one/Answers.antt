@@ -1,4 +1,3 @@
-use Rattle.std.proofs.Common.{refl}
 use Rattle.replay_check.proofs.Next.{next_on_board}
 use Rattle.replay_check.proofs.routes.make_one.Goals as goal
 

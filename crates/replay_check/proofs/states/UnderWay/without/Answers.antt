@@ -6,10 +6,9 @@ use Rattle.board_model.specs.declared.made.Conn.{Conn}
 use Rattle.board_model.specs.Known.{IsKnown}
 use Rattle.board_model.specs.Made.{conns_of, without_conns}
 use Rattle.board_model.specs.Shapes.{conn_shapes, state_shapes}
-use Rattle.plane_set.specs.Relabelled.{BeginWithBoard}
 use Rattle.plane_set.specs.Standing.{StandsFor}
 use Rattle.replay_check.specs.States.{IsUnderWay}
-use Rattle.replay_check.proofs.Growing.{all_owned, begin_with_board, gone_known, stay_and_gone, without_net}
+use Rattle.replay_check.proofs.Growing.{all_owned, gone_known, stay_and_gone, without_net}
 use Rattle.replay_check.proofs.states.UnderWay.without.Given as given
 use Rattle.replay_check.proofs.states.UnderWay.without.Goals as goal
 
