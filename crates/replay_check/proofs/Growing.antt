@@ -18,11 +18,10 @@ use Rattle.board_model.specs.Lookup.{rule_of, kind_of, pad_of, class_of, layers_
 use Rattle.board_model.specs.Made.{conns_of, with_conn, without_conns}
 use Rattle.board_model.specs.Rules.{IsBoard}
 use Rattle.board_model.specs.Segments.{segment}
-use Rattle.board_model.specs.Shapes.{board_shapes, conn_shapes, legs_shapes, leg_shapes, made_shapes, state_shapes, net_shape, place_of, end_of}
+use Rattle.board_model.specs.Shapes.{board_shapes, conn_shapes, legs_shapes, leg_shapes, state_shapes, net_shape, place_of, end_of}
 use Rattle.board_model.specs.WellFormed.{IsWellFormed, AreWellFormed}
 use Rattle.board_model.proofs.MadeShapes.{conn_known}
 use Rattle.board_model.proofs.StateShapes.{All-flat_map, only_the_board}
-use Rattle.plane_set.specs.Relabelled.{BeginWithBoard}
 use Rattle.plane_set.specs.Standing.{PlaneTable, StandsFor}
 use Rattle.plane_set.proofs.Standing.{stands_for_members}
 use Rattle.step_laws.proofs.Shapes.{shapes_with_conn, shapes_without_conns}
@@ -103,10 +102,6 @@ module _ (b : BoardParts) (lists : List (List Conn)) (set : PlaneTable) (state :
     on_board = without_all (IsBoardConn b) lists n state.on_board;
     planes = stands;
   }
-
--- the shapes of a state begin with the board's
-pub begin_with_board : (b : BoardParts) (lists : List (List Conn)) → BeginWithBoard b (state_shapes b lists)
-begin_with_board b lists = record { others = made_shapes b 0 lists; split = refl }
 
 -- what holds of everything holds of each item
 all_so : {A : Type 0} (P : A → Type 0) → ((x : A) → P x) → (xs : List A) → All P xs

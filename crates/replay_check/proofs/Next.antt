@@ -116,9 +116,6 @@ module _ (b : BoardParts) (board : IsBoard b) (lists : List (List Conn)) (set : 
         bound = bound;
       }
 
-  -- the next connection of a net is well formed, and its corners are on the board
-  pub next_well_formed : (m : Made1) → IsNextConnection b lists n m → IsWellFormed b m.conn
-  next_well_formed m h = h.least.connection.well_formed
-
+  -- the corners of the next connection of a net are on the board
   pub next_on_board : (m : Made1) → IsNextConnection b lists n m → IsBoardConn b m.conn
   next_on_board m h = conn_on_board b set n sources targets m.conn (connection_of b g sources targets m.conn m.cert.bound (next_is_good m h).match)

@@ -58,9 +58,6 @@ module _ (b : BoardParts) where
       wrong new (subst P (run_determined b old cs rs e.mid mid e.before h) e.last)
 
 module _ (b : BoardParts) (cs : List Command) (rs : List Reply) where
-  pub run_begins : HasRun b cs rs 0 (nothing_made b)
-  run_begins = record { some_commands = omega arith; some_replies = omega arith; run = refl }
-
   module _ (i : ℕ) (lists : State) (h : HasRun b cs rs i lists) where
     each_before : (m : ℕ) → m < i + 1 → IsRun b (take m cs) (take m rs)
     each_before m l =
@@ -87,12 +84,6 @@ module _ (b : BoardParts) (cs : List Command) (rs : List Reply) where
         let few = ap (λ (ss : List Reply). length ss) (take_all (i + 1) rs (omega (arith, e))) in
         let more = length-take-le (i + 1) cs (omega (arith, l)) in
         omega (arith, same, few, more, e))
-
-    pub run_ends : length cs ≡ i → length rs ≡ i → IsRun b cs rs
-    run_ends e f =
-        let P : List Command → Type 0 = λ ds. IsRunFrom b (nothing_made b) ds (take i rs) lists in
-        let Q : List Reply → Type 0 = λ ss. IsRunFrom b (nothing_made b) cs ss lists in
-        (lists, subst Q (take_all i rs (omega (arith, f))) (subst P (take_all i cs (omega (arith, e))) h.run))
 
     module _ (c : Command) (r : Reply) (in_commands : i < length cs) (in_replies : i < length rs) (next_command : take (i + 1) cs ≡ take i cs ++ c ∷ []) (next_reply : take (i + 1) rs ≡ take i rs ++ r ∷ []) where
       pub run_grows : (new : State) → IsStep b lists c r new → HasRun b cs rs (i + 1) new

@@ -1,8 +1,7 @@
 -- Connections, and the blocks of nets, one after another: what is left of them is told in the state that those
 -- before led to.
-use Rattle.std.proofs.Common.{ℕ, suc, ◌≡◌, ◌+◌, ◌-◌, ◌<◌, ◌≤◌, List, ◌∷◌, length, get_or, drop, Option, Some, None, refl, sym, subst, arith}
+use Rattle.std.proofs.Common.{ℕ, suc, ◌≡◌, ◌+◌, ◌-◌, ◌<◌, ◌≤◌, List, ◌∷◌, length, get_or, drop, Option, Some, None, sym, subst, arith}
 use Rattle.std.proofs.Math.Seq.{drop-cons}
-use Rattle.std.proofs.lemmas.List.{drop_all}
 use Rattle.geo_rect.specs.declared.ids.NetId.{NetId}
 use Rattle.board_model.specs.declared.made.Conn.{Conn}
 use Rattle.board_model.specs.declared.parts.BoardParts.{BoardParts}
@@ -33,12 +32,6 @@ pub record AreMadeSoFar (b : BoardParts) (old : State) (n : NetId) (ms : List Ma
   pub count : length (conns_of now n) ≡ length (conns_of old n) + i
 
 module _ (b : BoardParts) (old : State) (n : NetId) (ms : List Made1) where
-  pub made_begins : AreMadeSoFar b old n ms 0 old
-  made_begins = record { forth = λ new h. h; back = λ new h. h; count = omega arith }
-
-  pub made_ends : (i : ℕ) (now : State) → length ms ≤ i → AreMadeSoFar b old n ms i now → AreMadeInTurn b old n ms now
-  made_ends i now l h = let P : List Made1 → Type 0 = λ xs. AreMadeInTurn b now n xs now in h.back now (subst P (sym (drop_all i ms l)) refl)
-
   module _ (i : ℕ) (m : Made1) (l : i < length ms) (e : get_or ms i m ≡ m) (now : State) (h : AreMadeSoFar b old n ms i now) where
     abbrev Left : State → List Made1 → Type 0
     Left new xs = AreMadeInTurn b now n xs new
@@ -50,23 +43,12 @@ module _ (b : BoardParts) (old : State) (n : NetId) (ms : List Made1) where
       count = let more = one_conn_more now n m.conn k in omega (arith, more, h.count);
     }
 
-    pub made_no_more : (IsNextConnection b now n m → ⊥) → (new : State) → AreMadeInTurn b old n ms new → ⊥
-    made_no_more not_next new made =
-        let parts : Left new (m ∷ drop (i + 1) ms) = subst (Left new) (left_from ms i m l e) (h.forth new made) in
-        not_next parts.0
-
 -- the first i of the blocks are right, and led from old to the state now
 pub record AreRoutedSoFar (b : BoardParts) (old : State) (rs : List Routed) (i : ℕ) (now : State) : Type 0 where
   pub forth : (new : State) → AreRoutedFrom b 0 old rs new → AreRoutedFrom b i now (drop i rs) new
   pub back : (new : State) → AreRoutedFrom b i now (drop i rs) new → AreRoutedFrom b 0 old rs new
 
 module _ (b : BoardParts) (old : State) (rs : List Routed) where
-  pub routed_begins : AreRoutedSoFar b old rs 0 old
-  routed_begins = record { forth = λ new h. h; back = λ new h. h }
-
-  pub routed_ends : (i : ℕ) (now : State) → length rs ≤ i → AreRoutedSoFar b old rs i now → AreRoutedFrom b 0 old rs now
-  routed_ends i now l h = let P : List Routed → Type 0 = λ xs. AreRoutedFrom b i now xs now in h.back now (subst P (sym (drop_all i rs l)) refl)
-
   module _ (i : ℕ) (r : Routed) (l : i < length rs) (e : get_or rs i r ≡ r) (now : State) (h : AreRoutedSoFar b old rs i now) where
     abbrev Rest : State → List Routed → Type 0
     Rest new xs = AreRoutedFrom b i now xs new
@@ -79,19 +61,6 @@ module _ (b : BoardParts) (old : State) (rs : List Routed) where
           subst P (routed_determined b now r parts.1 mid parts.2 k) parts.3;
       back = λ new all. h.back new (subst (Rest new) (sym (left_from rs i r l e)) (net, mid, k, all));
     }
-
-    pub routed_no_more : (r.net ≡ net_at i → (new : State) → IsRouted b now r new → ⊥) → (new : State) → AreRoutedFrom b 0 old rs new → ⊥
-    routed_no_more wrong new all =
-        let parts : Rest new (r ∷ drop (i + 1) rs) = subst (Rest new) (left_from rs i r l e) (h.forth new all) in
-        wrong parts.0 parts.1 parts.2
-
--- what is told of the rest has the right counts
-rest_counted : (b : BoardParts) (lists : State) (n : NetId) (missing made : ℕ) (o : Option Fail) → IsDoneOrStuck b lists n missing made o → AreCounted missing made o
-rest_counted b lists n missing made None h = h
-rest_counted b lists n missing made (Some f) h = h.0
-
-pub routed_counted : (b : BoardParts) (old : State) (r : Routed) (new : State) → IsRouted b old r new → AreCounted r.missing (length r.made) r.none
-routed_counted b old r new h = rest_counted b new r.net r.missing (length r.made) r.none h.rest
 
 -- no more connections were made than were missing
 pub counted_few : (missing made : ℕ) (o : Option Fail) → AreCounted missing made o → made ≤ missing
