@@ -1,10 +1,9 @@
 -- What an iteration over a slab gives first is one of its values, under its key.
-use Rattle.std.proofs.Common.{◌≡◌, ℕ, ◌+◌, ◌<◌, List, ◌∷◌, Some, IsSome, Contains, refl, sym, subst, ◌∙◌, arith}
+use Rattle.std.proofs.Common.{◌≡◌, ℕ, List, ◌∷◌, Some, IsSome, Contains, refl, sym, subst, ◌∙◌, arith}
 use Rattle.std.specs.declared.option.Option.{Option}
 use Rattle.slab.specs.Slab.{Slab, get, entries}
 use Rattle.slab.proofs.SlabLemmas.{Contains-entries}
 use Rattle.tile_store.specs.declared.tiles.Tile.{Tile}
-use Rattle.tile_store.specs.declared.tiles.TileId.{TileId}
 use Rattle.tile_store.specs.Store.{Store, IsPresent}
 
 pub first_is_present : (now : Store) (tiles : Slab Tile) (spare key : ℕ) (tile : Tile) (listed rest : List (ℕ × Tile)) → record { slots = tiles.slots; spare = spare } ≡ now → listed ≡ entries tiles → listed ≡ (key, tile) ∷ rest → IsPresent now (record { 0 = key })

@@ -1,5 +1,5 @@
 -- What contracts see of a store of tiles: a finite map from numbers to tiles.
-use Rattle.std.specs.Prelude.{◌≡◌, ◌≢◌, ℕ, List, Option, Some, None, IsSome, slice_index_or}
+use Rattle.std.specs.Prelude.{◌≡◌, ◌≢◌, ℕ, List, Option, None, IsSome, slice_index_or}
 use Rattle.tile_store.specs.declared.tiles.Tile.{Tile}
 use Rattle.tile_store.specs.declared.tiles.TileId.{TileId}
 

@@ -48,7 +48,7 @@ fn three_tiles_under_three_numbers(rt: HostRuntime) -> Result<(), Fail> {
     assert_ne!(rt; second, third);
     store.write(first, free_tile(areas[2]));
     assert_eq!(rt; area_at::<Brand>(&store, first, Blank::new(1)), areas[2]);
-    assert_eq!(rt; store.take(second).area, areas[1]);
+    assert_eq!(rt; store.take(first).area, areas[2]);
     assert!(rt; store.some_id().is_some());
     Ok(())
 }
