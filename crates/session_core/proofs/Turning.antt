@@ -1,9 +1,8 @@
 -- A session goes on when a connection is made, and when a net's connections are removed.
-use Rattle.std.proofs.Common.{◌≡◌, ◌<◌, ℕ, ◌+◌, ◌↔◌, ◌⊎◌, inl, inr, List, [], ◌∷◌, ◌++◌, Some, length, All, Contains, Option, None, is_some, false, set, sym, ◌∙◌, ap, subst, refl, rules, arith}
+use Rattle.std.proofs.Common.{◌≡◌, ◌<◌, ℕ, ◌+◌, ◌↔◌, ◌⊎◌, inl, inr, List, [], ◌∷◌, ◌++◌, Some, length, All, Contains, Option, None, is_some, false, sym, ap, subst, refl, rules, arith}
 use Rattle.std.specs.Prelude.{IsSome}
 use Rattle.std.specs.List.{flat_map}
 use Rattle.std.proofs.lemmas.Bool.{false≢true}
-use Rattle.std.proofs.lemmas.List.{get_or-replicate, set-get_or}
 use Rattle.std.proofs.lemmas.List.Elements.{All-replicate, All-nil, All-cons, All-append, All-weaker, All-get_or, All-set, Contains-append_left, Contains-append_right, Contains-append_cases}
 use Rattle.geo_rect.specs.declared.ids.NetId.{NetId}
 use Rattle.board_model.specs.declared.made.Conn.{Conn}
@@ -56,29 +55,14 @@ session_nothing b lists board e = record {
   planes = e;
 }
 
-module _ (b : BoardParts) (lists : List (List Conn)) (set : PlaneTable) where
-  -- planes that are there already stand for the session
-  pub sitting_kept : IsSession b lists (Some set) → IsSitting b lists set
-  sitting_kept h = record { board = h.board; state = h.state; within = h.within; stands = h.planes }
-
-  -- planes of the board alone stand for a session that had none
-  pub sitting_built : StandsFor b (board_shapes b) set → IsSession b lists None → IsSitting b lists set
-  sitting_built stands h = record {
-    board = h.board;
-    state = h.state;
-    within = h.within;
-    stands = subst (λ (ss : List Shape). StandsFor b ss set) (sym (only_the_board b lists (none_of b lists h.planes))) stands;
-  }
-
-  -- a session goes on with planes that stand for it
-  pub session_with : IsSitting b lists set → IsSession b lists (Some set)
-  session_with h = record { board = h.board; state = h.state; within = h.within; planes = h.stands }
-
--- where a session has no planes yet, no net has a connection that could go
-pub without_nothing : (b : BoardParts) (lists : List (List Conn)) (n : NetId) → n.0 < length b.net_names → IsSession b lists None → lists ≡ without_conns lists n
-without_nothing b lists n known h =
-    let own : conns_of lists n ≡ [] = ap (λ (ls : List (List Conn)). conns_of ls n) h.planes ∙ get_or-replicate (length b.net_names) n.0 [] [] known in
-    sym (set-get_or lists n.0 []) ∙ ap (λ (cs : List Conn). set lists n.0 cs) own
+-- planes of the board alone stand for a session that had none
+pub sitting_built : (b : BoardParts) (lists : List (List Conn)) (set : PlaneTable) → StandsFor b (board_shapes b) set → IsSession b lists None → IsSitting b lists set
+sitting_built b lists set stands h = record {
+  board = h.board;
+  state = h.state;
+  within = h.within;
+  stands = subst (λ (ss : List Shape). StandsFor b ss set) (sym (only_the_board b lists (none_of b lists h.planes))) stands;
+}
 
 module _ (b : BoardParts) (lists : List (List Conn)) (n : NetId) (set : PlaneTable) (h : IsSitting b lists set) (known : n.0 < length b.net_names) where
   pub net_listed : n.0 < length lists
