@@ -1,9 +1,9 @@
 -- A session goes on when a connection is made, and when a net's connections are removed.
-use Rattle.std.proofs.Common.{◌≡◌, ◌<◌, ℕ, ◌+◌, ◌↔◌, ◌⊎◌, inl, inr, List, [], ◌∷◌, ◌++◌, Some, length, All, Contains, Option, None, is_some, false, sym, ap, subst, rules, arith}
+use Rattle.std.proofs.Common.{◌≡◌, ◌<◌, ℕ, ◌+◌, ◌↔◌, ◌⊎◌, inl, inr, List, [], ◌∷◌, ◌++◌, Some, length, All, Contains, Option, None, is_some, false, sym, ap, subst, refl, rules, arith}
 use Rattle.std.specs.Prelude.{IsSome}
 use Rattle.std.specs.List.{flat_map}
 use Rattle.std.proofs.lemmas.Bool.{false≢true}
-use Rattle.std.proofs.lemmas.List.Elements.{All-nil, All-cons, All-append, All-weaker, All-get_or, All-set, Contains-append_left, Contains-append_right, Contains-append_cases}
+use Rattle.std.proofs.lemmas.List.Elements.{All-replicate, All-nil, All-cons, All-append, All-weaker, All-get_or, All-set, Contains-append_left, Contains-append_right, Contains-append_cases}
 use Rattle.geo_rect.specs.declared.ids.NetId.{NetId}
 use Rattle.board_model.specs.declared.made.Conn.{Conn}
 use Rattle.board_model.specs.declared.parts.BoardParts.{BoardParts}
@@ -26,7 +26,7 @@ use Rattle.route_law.specs.Steps.{nothing_made}
 use Rattle.route_law.proofs.Beginning.{nothing-state}
 use Rattle.route_law.proofs.Running.{made-next}
 use Rattle.step_laws.proofs.Shapes.{shapes_with_conn, shapes_without_conns}
-use Rattle.session_core.specs.Sessions.{IsSitting, IsWithin}
+use Rattle.session_core.specs.Sessions.{IsSession, IsSitting, IsWithin}
 use Rattle.step_laws.proofs.Keeping.{legs_owned, length-with_conn, joined_state, removed_state}
 use Rattle.session_core.specs.Adopting.{IsNextWalk}
 use Rattle.session_core.specs.Attempts.{IsOneMore, IsTurn}
@@ -41,13 +41,27 @@ parts xs ys s = (Contains-append_cases xs ys s, back)
     back (inl h) = Contains-append_left xs ys s h
     back (inr h) = Contains-append_right xs ys s h
 
--- a session in which nothing is made
-pub sitting_nothing : (b : BoardParts) (lists : List (List Conn)) (set : PlaneTable) → IsBoard b → lists ≡ nothing_made b → All (λ (conns : List Conn). conns ≡ []) lists → StandsFor b (board_shapes b) set → IsSitting b lists set
-sitting_nothing b lists set board e none stands = record {
+-- no net has a connection where nothing is made
+none_of : (b : BoardParts) (lists : List (List Conn)) → lists ≡ nothing_made b → All (λ (conns : List Conn). conns ≡ []) lists
+none_of b lists e =
+    subst (λ (ls : List (List Conn)). All (λ (conns : List Conn). conns ≡ []) ls) (sym e) (All-replicate (λ (conns : List Conn). conns ≡ []) (length b.net_names) [] refl)
+
+-- a session in which nothing is made needs no planes
+pub session_nothing : (b : BoardParts) (lists : List (List Conn)) → IsBoard b → lists ≡ nothing_made b → IsSession b lists None
+session_nothing b lists board e = record {
   board = board;
   state = subst (λ (ls : List (List Conn)). IsState b ls) (sym e) (nothing-state b);
-  within = All-weaker (λ (conns : List Conn). conns ≡ []) (All (IsWithin b)) (λ conns empty. subst (λ (cs : List Conn). All (IsWithin b) cs) (sym empty) (All-nil (IsWithin b))) lists none;
-  stands = subst (λ (ss : List Shape). StandsFor b ss set) (sym (only_the_board b lists none)) stands;
+  within = All-weaker (λ (conns : List Conn). conns ≡ []) (All (IsWithin b)) (λ conns empty. subst (λ (cs : List Conn). All (IsWithin b) cs) (sym empty) (All-nil (IsWithin b))) lists (none_of b lists e);
+  planes = e;
+}
+
+-- planes of the board alone stand for a session that had none
+pub sitting_built : (b : BoardParts) (lists : List (List Conn)) (set : PlaneTable) → StandsFor b (board_shapes b) set → IsSession b lists None → IsSitting b lists set
+sitting_built b lists set stands h = record {
+  board = h.board;
+  state = h.state;
+  within = h.within;
+  stands = subst (λ (ss : List Shape). StandsFor b ss set) (sym (only_the_board b lists (none_of b lists h.planes))) stands;
 }
 
 module _ (b : BoardParts) (lists : List (List Conn)) (n : NetId) (set : PlaneTable) (h : IsSitting b lists set) (known : n.0 < length b.net_names) where

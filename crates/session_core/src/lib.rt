@@ -7,6 +7,7 @@ mod adopts;
 mod answers;
 mod attempts;
 mod looks;
+mod planes;
 mod rips;
 mod routes;
 mod sessions;

@@ -5,7 +5,7 @@ ghost use Rattle.std.specs.List.{flat_map};
 ghost use Rattle.board_model.specs.Made.{without_conns};
 ghost use Rattle.board_model.specs.Shapes.{conn_shapes};
 ghost use Rattle.board_model.specs.WellFormed.{IsWellFormed};
-ghost use Rattle.session_core.specs.Sessions.{IsSitting};
+ghost use Rattle.session_core.specs.Sessions.{IsSession, IsSitting};
 
 use board_model::{Board, Conn, Made, Shape, all_shapes, shapes_of};
 use geo_rect::{List, NetId, NoMemory};
@@ -13,6 +13,26 @@ use plane_core::Plane;
 use plane_set::PlaneSet;
 use rip_up::remove;
 use std::alloc::Global;
+
+/// Removes the connections of the net, and their shapes from the planes. Where there are no planes
+/// yet, nothing is made, and nothing changes.
+pub fn rip_if_made<P: Plane>(
+    alloc: Global,
+    board: &Board,
+    made: &mut Made,
+    planes: Option<PlaneSet<P>>,
+    net: NetId,
+) -> Result<Option<PlaneSet<P>>, NoMemory>
+    requires session { IsSession board.now.parts made.old.lists planes }
+    requires net { net.0 < length board.now.parts.net_names }
+    ensures lists { IfOk result (λ _. made.new.lists ≡ without_conns made.old.lists net) }
+    ensures session { IfOk result (λ held. IsSession board.now.parts made.new.lists held) }
+{
+    match planes {
+        Some(planes) => Ok(Some(rip(alloc, board, made, planes, net)?)),
+        None => Ok(None),
+    }
+}
 
 /// Removes the connections of the net, and their shapes from the planes.
 pub fn rip<P: Plane>(

@@ -6,6 +6,7 @@ ghost use Rattle.session_core.specs.Adopting.{AreAdopted};
 
 use crate::adopts::{Adopted, Adoption, adopt_conns};
 use crate::answers::{Answered, answer};
+use crate::planes::ready;
 use board_model::{Board, Command, Conn, Made};
 use geo_rect::{NetId, NoMemory};
 use plane_core::Plane;
@@ -14,22 +15,23 @@ use route_law::Reply;
 use std::alloc::Global;
 use std::marker::Model;
 
-/// A board, the connections that are made on it, and planes that stand for both.
+/// A board, the connections that are made on it, and planes that stand for both. They are built when
+/// a command first needs them.
 #[derive(Drop)]
 pub struct Session<P: Plane> {
     board: Board,
     made: Made,
-    planes: PlaneSet<P>,
+    planes: Option<PlaneSet<P>>,
 }
 
 impl<P: Plane> Model for Session<P> {
-    ghost use Rattle.session_core.specs.Sessions.{Sitting, IsSitting};
+    ghost use Rattle.session_core.specs.Sessions.{Sitting, IsSession};
 
     ghost Value = { Sitting };
 
     ghost view = { λ s. record { parts = s.board.parts; lists = s.made.lists; planes = s.planes } };
 
-    ghost invariant = { λ s. IsSitting s.board.parts s.made.lists s.planes };
+    ghost invariant = { λ s. IsSession s.board.parts s.made.lists s.planes };
 }
 
 impl<P: Plane> Session<P> {
@@ -39,11 +41,10 @@ impl<P: Plane> Session<P> {
         ensures nothing { IfOk result (λ s. s.lists ≡ nothing_made board.parts) }
     {
         let made = Made::none(alloc, &board)?;
-        let planes = PlaneSet::build(alloc, &board)?;
         Ok(Session {
             board,
             made,
-            planes,
+            planes: None,
         })
     }
 
@@ -102,13 +103,14 @@ impl<P: Plane> Session<P> {
             mut made,
             planes,
         } = self;
+        let planes = ready(alloc, &board, planes)?;
         let Adoption { planes, outcome } = adopt_conns(
             alloc, &board, &mut made, planes, net, conns,
         )?;
         let session = Session {
             board,
             made,
-            planes,
+            planes: Some(planes),
         };
         Ok((session, outcome))
     }
