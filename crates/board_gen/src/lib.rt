@@ -1,0 +1,7 @@
+//! The generator of boards: for each number of nets one board text, in which each two neighbouring
+//! nets must cross.
+#![tactic(auto)]
+
+mod generating;
+
+pub use generating::generate;
