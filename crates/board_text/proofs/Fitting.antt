@@ -1,8 +1,7 @@
 -- What a line must keep so that it breaks no rule, place by place.
 use Rattle.std.proofs.Common.{◌≡◌, ℕ, ◌+◌, ◌≤◌, Bool, true, false, List, [], ◌∷◌, length, refl, ap, ◌∙◌}
-use Rattle.std.specs.Prelude.{not, ◌||◌, nat_lt}
+use Rattle.std.specs.Prelude.{not, nat_lt}
 use Rattle.std.proofs.lemmas.Bool.{le-ltb, eq-eqb, or_from}
-use Rattle.board_model.specs.declared.limits.TheConstants.{MAX_NAME}
 use Rattle.board_reader.specs.declared.drafts.Draft.{Draft}
 use Rattle.board_reader.specs.declared.forms.Form.{Form}
 use Rattle.board_reader.specs.declared.forms.Place.{Place}
@@ -10,7 +9,7 @@ use Rattle.board_reader.specs.declared.forms.Place.TheVariants.{Title, NewName, 
 use Rattle.board_reader.specs.declared.forms.Stage.{Stage}
 use Rattle.board_reader.specs.declared.forms.Stage.TheVariants.{Start, Parts, Commands}
 use Rattle.board_reader.specs.declared.refusals.RefusalKind.{RefusalKind}
-use Rattle.board_reader.specs.declared.refusals.RefusalKind.TheVariants.{NotAscii, BadWord, BadNumber, OutOfRange, UnknownName, TwiceNamed, WrongPlace, MissingRule, NoEnd, TooMany, BadRect, BadReply}
+use Rattle.board_reader.specs.declared.refusals.RefusalKind.TheVariants.{BadWord, BadNumber, OutOfRange, UnknownName, TwiceNamed, WrongPlace, MissingRule, TooMany, BadRect}
 use Rattle.board_reader.specs.Checks.{fails, some_fails, fails_whole, breaks, names_of, is_too_long, is_no_number, is_unknown, is_taken, is_outside, is_given, is_bad_rect, is_one_too_many, is_missing}
 use Rattle.board_reader.specs.Forms.{places, stage_of, is_stage}
 use Rattle.board_reader.specs.Lines.{word}

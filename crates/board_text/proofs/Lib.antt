@@ -1,11 +1,11 @@
 pub mod Cells
 pub mod Drafts
 pub mod Fitting
-pub mod Items
+pub mod ItemsRead
 pub mod Known
 pub mod Lines
 pub mod Numerals
 pub mod Telling
-pub mod Vias
+pub mod ViasRead
 pub mod Whole
-pub mod Wires
+pub mod WiresRead

@@ -1,22 +1,21 @@
 -- What parts of a text add to what was read before, one after the other.
-use Rattle.std.proofs.Common.{◌≡◌, ℕ, ◌+◌, ◌<◌, suc, zero, Bool, true, false, List, [], ◌∷◌, ◌++◌, Option, Some, None, Ok, length, get_or, refl, sym, ap, ◌∙◌, arith, subst, append_assoc}
+use Rattle.std.proofs.Common.{◌≡◌, ℕ, ◌+◌, ◌<◌, suc, zero, Bool, false, List, [], ◌∷◌, ◌++◌, Some, None, Ok, length, get_or, refl, sym, ap, ◌∙◌, arith, subst, append_assoc}
 use Rattle.std.specs.Prelude.{find, codes}
 use Rattle.std.specs.List.{flat_map, range_with_len, list_any, AllByRecursion}
 use Rattle.std.proofs.lemmas.Bool.{cond-false}
 use Rattle.board_reader.specs.declared.drafts.Draft.{Draft}
 use Rattle.board_reader.specs.declared.forms.Form.{Form}
 use Rattle.board_reader.specs.declared.forms.Stage.TheVariants.{Commands}
-use Rattle.board_reader.specs.declared.refusals.RefusalKind.{RefusalKind}
 use Rattle.board_reader.specs.Checks.{applies, kind_with, kind_of_line, order}
 use Rattle.board_reader.specs.Drafts.{after_form}
 use Rattle.board_reader.specs.Forms.{spelling, form_of}
 use Rattle.board_reader.specs.Lines.{lines, words, word, is_other_byte}
 use Rattle.board_reader.specs.Passing.{BreaksNone}
-use Rattle.board_reader.specs.Reading.{Told, told, step, reading_from}
+use Rattle.board_reader.specs.Reading.{told, step, reading_from}
 use Rattle.board_reader.proofs.Lining.{lines-next, ended}
 use Rattle.board_reader.proofs.Stepping.{passed}
 use Rattle.board_text.specs.Spelled.{spaced, line}
-use Rattle.board_text.proofs.Lines.{IsGood, IsPlain, good-spelling, form-spelled, counts-spelled, line-words, line-plain, no-other, first-line}
+use Rattle.board_text.proofs.Lines.{IsGood, good-spelling, form-spelled, counts-spelled, line-words, line-plain, no-other, first-line}
 
 -- the lines of the text take the one draft to the other, whatever follows
 abbrev pub Tells : Draft → List ℕ → Draft → Type 0

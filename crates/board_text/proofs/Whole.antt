@@ -1,6 +1,6 @@
 -- The whole text of a board and of commands is read back.
-use Rattle.std.proofs.Common.{◌≡◌, ℕ, ℤ, pos, ◌+◌, ◌*◌, ◌<◌, ◌≤◌, suc, true, false, List, [], ◌∷◌, ◌++◌, All, Ok, length, get_or, take, refl, sym, ap, ◌∙◌, arith, subst}
-use Rattle.std.specs.Prelude.{nat_lt, not, ◌&&◌}
+use Rattle.std.proofs.Common.{◌≡◌, ℕ, ℤ, pos, ◌+◌, ◌<◌, ◌≤◌, suc, true, false, List, [], ◌∷◌, ◌++◌, All, Ok, length, get_or, take, refl, sym, ap, ◌∙◌, arith, subst}
+use Rattle.std.specs.Prelude.{nat_lt, not}
 use Rattle.std.specs.List.{flat_map, range_with_len}
 use Rattle.std.proofs.Math.Seq.{take-suc}
 use Rattle.std.proofs.lemmas.Bool.{lt-ltb, and_from}
@@ -12,28 +12,26 @@ use Rattle.board_model.specs.declared.commands.Command.{Command}
 use Rattle.board_model.specs.declared.commands.Command.TheVariants as command
 use Rattle.board_model.specs.declared.parts.BoardParts.{BoardParts}
 use Rattle.board_model.specs.declared.parts.Rule.{Rule}
-use Rattle.board_reader.specs.declared.drafts.Draft.{Draft}
-use Rattle.board_reader.specs.declared.forms.Form.{Form}
 use Rattle.board_reader.specs.declared.forms.Form.TheVariants as form
 use Rattle.board_reader.specs.declared.tables.Entry.{Entry}
-use Rattle.board_reader.specs.Checks.{is_complete, is_one_too_many}
+use Rattle.board_reader.specs.Checks.{is_complete}
 use Rattle.board_reader.specs.Drafts.{no_draft, after_form, parts_of, layer_of, class_of}
 use Rattle.board_reader.specs.Drafts as drafts
 use Rattle.board_reader.specs.Forms.{spelling}
-use Rattle.board_reader.specs.Reading.{Told, told, reading}
+use Rattle.board_reader.specs.Reading.{reading}
 use Rattle.board_reader.specs.Tables.{table, is_full}
 use Rattle.board_text.specs.Spelled.{line, board_line, wire_lines, via_lines, item_lines, command_line, spelled, told_of, layer_name, class_name, net_name}
 use Rattle.board_text.specs.Spelled as text
 use Rattle.board_model.specs.Lookup.{layer_at}
-use Rattle.board_text.proofs.Cells.{Gives, AreGiven, all-give, given-full, table-is-list}
+use Rattle.board_text.proofs.Cells.{AreGiven, all-give, given-full, table-is-list}
 use Rattle.board_text.proofs.Drafts.{with_layers, with_classes, with_rules, with_kinds, with_pads, with_blocks, with_nets, with_pins, with_commands}
 use Rattle.board_text.proofs.Fitting.{breaks-none}
-use Rattle.board_text.proofs.Items.{blocks-tell, nets-tell, pins-tell}
+use Rattle.board_text.proofs.ItemsRead.{blocks-tell, nets-tell, pins-tell}
 use Rattle.board_text.proofs.Known.{number-of-name, name-known, good-of-names, room}
 use Rattle.board_text.proofs.Numerals.{size, size-is}
 use Rattle.board_text.proofs.Telling.{Tells, tells-more, tells-line, tells-each, tells-all}
-use Rattle.board_text.proofs.Vias.{kinds-tell, pad_at, pads-step}
-use Rattle.board_text.proofs.Wires.{board-tells, layers-tell, classes-tell, some_rule, rule_at, rules-step}
+use Rattle.board_text.proofs.ViasRead.{kinds-tell, pad_at, pads-step}
+use Rattle.board_text.proofs.WiresRead.{board-tells, layers-tell, classes-tell, some_rule, rule_at, rules-step}
 
 -- the rules and the pads of a board, as its text gives them
 record AreTables (b : BoardParts) (rs : List (Entry Rule)) (ps : List (Entry ℤ)) : Type 0 where
@@ -135,7 +133,7 @@ has-wires b h =
       rs = rules.given;
       are = rules.are;
       tells = tells-more (with_layers b []) (with_classes b b.classes) (with_rules b rules.given)
-      (flat_map text.layer_line b.layers ++ flat_map text.class_line b.classes) (flat_map (λ l. text.rule_lines b (layer_at l)) (range_with_len 0 (length b.layers))) names rules.tells;
+          (flat_map text.layer_line b.layers ++ flat_map text.class_line b.classes) (flat_map (λ l. text.rule_lines b (layer_at l)) (range_with_len 0 (length b.layers))) names rules.tells;
     }
 
 record HasVias (b : BoardParts) (rs : List (Entry Rule)) : Type 0 where
@@ -151,8 +149,8 @@ has-vias b rs h =
       ps = pads.given;
       are = pads.are;
       tells = tells-more (with_rules b rs) (with_kinds b rs b.kind_names b.kinds) (with_pads b rs pads.given)
-      (flat_map (λ k. text.kind_line b (text.kind_at k)) (range_with_len 0 (length b.kinds))) (flat_map (λ k. text.pad_lines b (text.kind_at k)) (range_with_len 0 (length b.kinds)))
-      (kinds-tell b rs h) pads.tells;
+          (flat_map (λ k. text.kind_line b (text.kind_at k)) (range_with_len 0 (length b.kinds))) (flat_map (λ k. text.pad_lines b (text.kind_at k)) (range_with_len 0 (length b.kinds)))
+          (kinds-tell b rs h) pads.tells;
     }
 
 items-tell : (b : BoardParts) (rs : List (Entry Rule)) (ps : List (Entry ℤ)) → IsBoard b → Tells (with_pads b rs ps) (item_lines b) (with_pins b rs ps b.pins)

@@ -91,8 +91,12 @@ block_line b k = line form.Block (layer_name b k.layer ∷ corners_and k.area []
 abbrev pub net_line : BoardParts → NetId → List ℕ
 net_line b n = line form.Net (net_name b n ∷ class_name b (class_of b n) ∷ [])
 
+-- where a pin is: its corners, and the first and the last of its layers
+abbrev pub place_words : BoardParts → Pin → List (List ℕ)
+place_words b p = corners_and p.area (layer_name b p.first ∷ layer_name b p.last ∷ [])
+
 abbrev pub pin_line : BoardParts → Pin → List ℕ
-pin_line b p = line form.Pin (net_name b p.net ∷ corners_and p.area (layer_name b p.first ∷ layer_name b p.last ∷ []))
+pin_line b p = line form.Pin (net_name b p.net ∷ place_words b p)
 
 abbrev pub command_line : BoardParts → Command → List ℕ
 command_line b (Route n) = line form.Route (net_name b n ∷ [])

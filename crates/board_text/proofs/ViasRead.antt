@@ -1,17 +1,16 @@
 -- The kinds of vias and their pads are read back.
-use Rattle.std.proofs.Common.{◌≡◌, ℕ, ℤ, pos, ◌+◌, ◌*◌, ◌<◌, ◌≤◌, min, max, suc, true, false, List, [], ◌∷◌, ◌++◌, None, length, get_or, take, refl, sym, ap, ◌∙◌, arith, subst}
-use Rattle.std.specs.Prelude.{is_some, nat_lt, not, decimal, ◌==◌, ◌||◌}
+use Rattle.std.proofs.Common.{◌≡◌, ℕ, ℤ, pos, ◌+◌, ◌*◌, ◌<◌, ◌≤◌, min, max, suc, true, List, [], ◌∷◌, ◌++◌, None, length, get_or, take, refl, sym, ap, ◌∙◌, arith, subst}
+use Rattle.std.specs.Prelude.{is_some, not, decimal, ◌==◌}
 use Rattle.std.specs.Fmt.{signed_decimal}
 use Rattle.std.specs.List.{flat_map, range_with_len}
 use Rattle.std.proofs.Math.Seq.{take-suc}
 use Rattle.std.proofs.lemmas.Bool.{eq-eqb, or_left}
 use Rattle.std.proofs.lemmas.List.{take_all}
-use Rattle.board_model.specs.Lookup.{kind_of, pad_of, layer_at}
+use Rattle.board_model.specs.Lookup.{kind_of}
 use Rattle.board_model.specs.Rules.{IsBoard, IsKind, IsMeasure}
 use Rattle.board_model.specs.declared.parts.BoardParts.{BoardParts}
 use Rattle.board_model.specs.declared.parts.Rule.{Rule}
 use Rattle.board_model.specs.declared.parts.ViaKind.{ViaKind}
-use Rattle.board_reader.specs.declared.drafts.Draft.{Draft}
 use Rattle.board_reader.specs.declared.forms.Form.TheVariants as form
 use Rattle.board_reader.specs.declared.tables.Entry.{Entry}
 use Rattle.board_reader.specs.Checks.{are_neighbours}
@@ -20,10 +19,10 @@ use Rattle.board_reader.specs.Drafts as drafts
 use Rattle.board_reader.specs.Forms.{spelling}
 use Rattle.board_reader.specs.Numbers.{number}
 use Rattle.board_reader.specs.Tables.{value_at}
-use Rattle.board_text.specs.Spelled.{line, kind_line, pad_line, kind_at, class_at}
+use Rattle.board_text.specs.Spelled.{kind_line, pad_line, kind_at, class_at}
 use Rattle.board_text.proofs.Cells.{laid, cell, cell-inside, IsStep}
 use Rattle.board_text.proofs.Drafts.{with_rules, with_kinds, with_pads}
-use Rattle.board_text.proofs.Fitting.{AreFit, IsWhole, breaks-none}
+use Rattle.board_text.proofs.Fitting.{breaks-none}
 use Rattle.board_text.proofs.Known.{number-of-name, name-known, name-new, good-of-names, room}
 use Rattle.board_text.proofs.Numerals.{IsWritten, written, has-decimal, good-decimal, number-decimal}
 use Rattle.board_text.proofs.Telling.{Tells, tells-line, tells-range}

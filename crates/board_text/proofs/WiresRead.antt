@@ -1,25 +1,24 @@
 -- The first line, the layers, the classes and the rules of a board are read back.
-use Rattle.std.proofs.Common.{◌≡◌, ℕ, pos, ◌+◌, ◌*◌, ◌<◌, ◌≤◌, suc, true, false, List, [], ◌∷◌, ◌++◌, None, length, get_or, take, refl, sym, ap, ◌∙◌, arith, subst}
-use Rattle.std.specs.Prelude.{codes, is_some, nat_lt}
+use Rattle.std.proofs.Common.{◌≡◌, ℕ, pos, ◌+◌, ◌*◌, ◌<◌, suc, List, [], ◌∷◌, ◌++◌, None, length, get_or, take, refl, sym, ap, ◌∙◌, arith, subst}
+use Rattle.std.specs.Prelude.{codes, is_some}
 use Rattle.std.specs.Fmt.{signed_decimal}
-use Rattle.std.specs.List.{flat_map, range_with_len}
+use Rattle.std.specs.List.{flat_map}
 use Rattle.std.proofs.Math.Seq.{take-suc}
 use Rattle.std.proofs.lemmas.List.{take_all}
-use Rattle.board_model.specs.Lookup.{rule_of, layer_at}
+use Rattle.board_model.specs.Lookup.{layer_at}
 use Rattle.board_model.specs.Rules.{IsBoard, IsRule}
 use Rattle.board_model.specs.declared.parts.BoardParts.{BoardParts}
 use Rattle.board_model.specs.declared.parts.Rule.{Rule}
-use Rattle.board_reader.specs.declared.drafts.Draft.{Draft}
 use Rattle.board_reader.specs.declared.forms.Form.TheVariants as form
 use Rattle.board_reader.specs.declared.tables.Entry.{Entry}
 use Rattle.board_reader.specs.Drafts.{no_draft, after_form, layer_of, class_of}
 use Rattle.board_reader.specs.Forms.{spelling}
 use Rattle.board_reader.specs.Numbers.{number}
 use Rattle.board_reader.specs.Tables.{value_at}
-use Rattle.board_text.specs.Spelled.{line, board_line, layer_line, class_line, rule_line, layer_name, class_name, class_at}
+use Rattle.board_text.specs.Spelled.{board_line, layer_line, class_line, rule_line, class_at}
 use Rattle.board_text.proofs.Cells.{laid, cell, cell-inside, IsStep}
 use Rattle.board_text.proofs.Drafts.{with_layers, with_classes, with_rules}
-use Rattle.board_text.proofs.Fitting.{HasNumber, AreFit, IsWhole, breaks-none}
+use Rattle.board_text.proofs.Fitting.{HasNumber, breaks-none}
 use Rattle.board_text.proofs.Known.{number-of-name, name-known, name-new, good-of-names, room}
 use Rattle.board_text.proofs.Lines.{good-name, good-tested}
 use Rattle.board_text.proofs.Numerals.{size, IsWritten, written}

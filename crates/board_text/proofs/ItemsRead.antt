@@ -1,5 +1,5 @@
 -- The blockages, the nets and the pins of a board are read back.
-use Rattle.std.proofs.Common.{◌≡◌, ℕ, ℤ, pos, ◌+◌, ◌<◌, ◌≤◌, ◌≤ℤ◌, min, max, suc, true, false, List, [], ◌∷◌, ◌++◌, length, get_or, take, refl, sym, ap, ◌∙◌, arith, subst}
+use Rattle.std.proofs.Common.{◌≡◌, ℕ, ℤ, pos, ◌+◌, ◌<◌, ◌≤◌, ◌≤ℤ◌, min, max, suc, false, List, [], ◌∷◌, ◌++◌, length, get_or, take, refl, sym, ap, ◌∙◌, arith, subst}
 use Rattle.std.specs.Prelude.{nat_lt, ◌||◌}
 use Rattle.std.specs.Fmt.{signed_decimal}
 use Rattle.std.specs.List.{flat_map, range_with_len}
@@ -7,8 +7,6 @@ use Rattle.std.proofs.Math.Seq.{take-suc}
 use Rattle.std.proofs.lemmas.Bool.{le-ltb, or_from}
 use Rattle.std.proofs.lemmas.Int.{ints}
 use Rattle.std.proofs.lemmas.List.{take_all}
-use Rattle.geo_rect.specs.declared.ids.LayerId.{LayerId}
-use Rattle.geo_rect.specs.declared.ids.NetId.{NetId}
 use Rattle.geo_rect.specs.declared.shapes.Rect.{Rect}
 use Rattle.geo_rect.specs.Plane.{rect_of}
 use Rattle.board_model.specs.Lookup.{class_of}
@@ -17,7 +15,6 @@ use Rattle.board_model.specs.declared.parts.Block.{Block}
 use Rattle.board_model.specs.declared.parts.BoardParts.{BoardParts}
 use Rattle.board_model.specs.declared.parts.Pin.{Pin}
 use Rattle.board_model.specs.declared.parts.Rule.{Rule}
-use Rattle.board_reader.specs.declared.drafts.Draft.{Draft}
 use Rattle.board_reader.specs.declared.forms.Form.TheVariants as form
 use Rattle.board_reader.specs.declared.tables.Entry.{Entry}
 use Rattle.board_reader.specs.Corners.{span}
@@ -25,9 +22,9 @@ use Rattle.board_reader.specs.Drafts.{after_form, layer_of}
 use Rattle.board_reader.specs.Drafts as drafts
 use Rattle.board_reader.specs.Forms.{spelling}
 use Rattle.board_reader.specs.Numbers.{number}
-use Rattle.board_text.specs.Spelled.{line, block_line, net_line, pin_line, net_at, corners_and}
-use Rattle.board_text.proofs.Drafts.{with_pads, with_blocks, with_nets, with_pins}
-use Rattle.board_text.proofs.Fitting.{AreFit, IsWhole, breaks-none}
+use Rattle.board_text.specs.Spelled.{block_line, net_line, pin_line, net_at, corners_and}
+use Rattle.board_text.proofs.Drafts.{with_blocks, with_nets, with_pins}
+use Rattle.board_text.proofs.Fitting.{breaks-none}
 use Rattle.board_text.proofs.Known.{number-of-name, name-known, name-new, good-of-names, room}
 use Rattle.board_text.proofs.Numerals.{size, size-is, IsWritten, written, rect-of-corners}
 use Rattle.board_text.proofs.Telling.{Tells, tells-line, tells-each, tells-range}
