@@ -3,5 +3,9 @@
 #![tactic(auto)]
 
 mod generating;
+mod parts;
+mod shapes;
+#[cfg(test)]
+mod tests;
 
 pub use generating::generate;

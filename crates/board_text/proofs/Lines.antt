@@ -27,7 +27,7 @@ pub record IsGood (w : List ℕ) : Type 0 where
 pub good-name : (w : List ℕ) → IsName w → IsGood w
 good-name w h = record { some = h.some; bytes = recursion_from_All IsWordByte w h.word }
 
-word-bytes : (w : List ℕ) → list_all is_word_byte w ≡ true → AllByRecursion IsWordByte w
+pub word-bytes : (w : List ℕ) → list_all is_word_byte w ≡ true → AllByRecursion IsWordByte w
 word-bytes [] e = tt
 word-bytes (b ∷ bs) e =
     let p = and_parts (is_word_byte b) (list_all is_word_byte bs) e in
