@@ -1,6 +1,6 @@
 -- The generated board keeps every rule of the board text, so that its text is read back.
 use Rattle.std.proofs.Common.{◌≡◌, ◌≢◌, ℕ, ℤ, pos, ◌+◌, ◌-◌, ◌*◌, ◌%◌, ◌^◌, ◌<◌, ◌≤◌, ◌≤ℤ◌, suc, zero, true, false, List, [], ◌∷◌, ◌++◌, All, Ok, length, get_or, drop, map, refl, sym, ap, ◌∙◌, arith, inl, inr, subst, length-append}
-use Rattle.std.specs.Prelude.{codes, decimal, AllPairs, ◌==◌, nat_lt, if◌then◌else◌}
+use Rattle.std.specs.Prelude.{codes, decimal, AllPairs, IfOk, Result, Err, ◌==◌, nat_lt, if◌then◌else◌}
 use Rattle.std.specs.List.{range_with_len, flat_map, list_all, AllByRecursion}
 use Rattle.std.proofs.lemmas.Bool.{cases_Bool, ltb-true, cond_both}
 use Rattle.std.proofs.lemmas.Fmt.{decimal_injective, length-decimal-le}
@@ -56,7 +56,7 @@ layer-names : AreNames 8 (codes "top" ∷ codes "bot" ∷ [])
 layer-names = record {
   few = omega arith;
   each = All-cons IsName (codes "top") (codes "bot" ∷ []) (tested-name (codes "top") (omega arith) (omega arith) refl)
-  (All-cons IsName (codes "bot") [] (tested-name (codes "bot") (omega arith) (omega arith) refl) (All-nil IsName));
+      (All-cons IsName (codes "bot") [] (tested-name (codes "bot") (omega arith) (omega arith) refl) (All-nil IsName));
   apart = two-apart (codes "top") (codes "bot") (λ e. let f : 116 ≡ 98 = ap (λ w. get_or w 0 0) e in omega (arith, f));
 }
 
@@ -166,3 +166,13 @@ pub same-board : (n : ℕ) (name : List ℕ) (height : ℤ) (layers classes : Li
 unfolding generated_board
 same-board n name height layers classes rules kind_names kinds pads blocks net_names net_classes pins e1 e2 e3 e4 e5 e6 e7 e8 e9 e10 e11 e12 =
     λ i. record { name = e1 i; width = pos 20000; height = e2 i; layers = e3 i; classes = e4 i; rules = e5 i; kind_names = e6 i; kinds = e7 i; pads = e8 i; blocks = e9 i; net_names = e10 i; net_classes = e11 i; pins = e12 i }
+
+-- what was spelled of the board is the generated text
+pub spelled-generated : {E : Type 0} (r : Result (List ℕ) E) (b : BoardParts) (n : ℕ) → b ≡ generated_board n → IfOk r (λ t. t ≡ spelled b asked) → IfOk r (λ t. t ≡ generated n)
+unfolding generated
+spelled-generated (Ok t) b n e h = h ∙ ap (λ x. spelled x asked) e
+spelled-generated (Err x) b n e h = h
+
+pub read-generated : {E : Type 0} (r : Result (List ℕ) E) (n : ℕ) → 1 ≤ n → n ≤ 2000 → IfOk r (λ t. t ≡ generated n) → IfOk r (λ t. reading t ≡ Ok (told_of (generated_board n) asked))
+read-generated (Ok t) n some few h = ap reading h ∙ generated-is-read n some few
+read-generated (Err x) n some few h = h

@@ -9,4 +9,4 @@ loop-i-preserved c =
     let next = c.loop-i._i + 1 in
     let rest = map (λ i. class_at 0) (range_with_len next (c.args.n + 1 - next)) in
     ap (λ l. l ++ rest) c.in_ok-push.ensures.ok
-    ∙ (map-next (λ i. class_at 0) c.loop-i._i (c.args.n + 1) c.loop-i.classes c.loop-i-test.true ∙ c.loop-i._invariant)
+    ∙ (map-next (λ i. class_at 0) c.loop-i._i (c.args.n + 1) c.loop-i.classes c.loop-i-test.true ∙ c.loop-i.invariant)
