@@ -3,6 +3,13 @@
 //! All coordinates are whole micrometres, and a cost is counted in micrometres of wire.
 #![tactic(auto)]
 
+mod conns;
+mod fields;
+mod heads;
+mod lines;
+mod parts;
+mod places;
 mod readings;
+mod words;
 
 pub use readings::{ReadReplies, read_replies};

@@ -1,8 +1,9 @@
-ghost use Rattle.std.specs.Prelude.{IfOk, IfErr};
+ghost use Rattle.std.specs.Prelude.{◌≡◌, IfOk, IfErr};
 ghost use Rattle.reply_reader.specs.Readings.{IsReadingOf, TellsRefusal};
+ghost use Rattle.reply_reader.specs.declared.readings.ReadReplies.TheVariants.{NoMemory};
 
 use board_model::Board;
-use geo_rect::List;
+use geo_rect::{List, NoMemory};
 use route_law::Reply;
 use std::alloc::Global;
 
@@ -12,6 +13,14 @@ pub enum ReadReplies {
     /// The line of this number, from 1, is the first that cannot stand in a text of replies.
     Refused(u64),
     NoMemory,
+}
+
+impl From<NoMemory> for ReadReplies {
+    ghost from_gives = { λ _ e. e ≡ NoMemory };
+
+    fn from(_error: NoMemory) -> ReadReplies {
+        ReadReplies::NoMemory
+    }
 }
 
 /// The replies that a text spells, which is not quiet.
