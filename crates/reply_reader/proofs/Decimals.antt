@@ -1,13 +1,23 @@
 -- A number is determined by its digits.
-use Rattle.std.proofs.Common.{◌≡◌, ℕ, ◌<◌, ◌≤◌, ◌^◌, ℤ, pos, negsuc, ◌≤ℤ◌, List, ◌∷◌, [], length, get_or, All, decimal, Ok, Err, Result, refl, sym, ap, ◌∙◌, subst, arith}
+use Rattle.std.proofs.Common.{◌≡◌, ℕ, ◌<◌, ◌≤◌, ◌^◌, ℤ, pos, negsuc, ◌≤ℤ◌, List, ◌∷◌, [], ◌++◌, ◌+◌, ◌%◌, length, get_or, All, decimal, Ok, Err, Result, refl, sym, ap, ◌∙◌, subst, arith}
 use Rattle.std.specs.Fmt.{signed_decimal}
 use Rattle.std.specs.Str.{IsAscii}
 use Rattle.std.specs.Str.Parse.{ParsesUnsigned, IsNumeral, digits_value}
 use Rattle.std.proofs.lemmas.Int.{ints}
-use Rattle.std.proofs.lemmas.Fmt.{IsAscii-decimal_wide, parse-decimal_wide, decimal_is_IsNumeral_wide}
+use Rattle.std.proofs.lemmas.Fmt.{IsAscii-decimal_wide, parse-decimal_wide, decimal_is_IsNumeral_wide, decimal_by_steps_wide}
+use Rattle.std.specs.List.{AllByRecursion as ByRecursion}
 use Rattle.reply_reader.specs.InRange.{IsCoordinate}
 use Rattle.reply_reader.specs.Forms.{word}
 use Rattle.reply_reader.specs.Fields.{IsCoordinateAt}
+
+-- a number is spelled by digits
+pub digits_above : (n : ℕ) → n < 10 ^ 64 → ByRecursion (λ c. 48 ≤ c) (decimal n)
+digits_above = decimal_by_steps_wide (λ (n : ℕ) (ds : List ℕ). ByRecursion (λ c. 48 ≤ c) ds)
+    (λ n lt. (omega arith, tt)) (λ n ds ge h. more ds (n % 10) h)
+  where
+    more : (ds : List ℕ) (d : ℕ) → ByRecursion (λ c. 48 ≤ c) ds → ByRecursion (λ c. 48 ≤ c) (ds ++ (48 + d) ∷ [])
+    more [] d h = (omega arith, tt)
+    more (x ∷ ds) d h = (h.0, more ds d h.1)
 
 pub same_decimal : (m n : ℕ) → m < 10 ^ 64 → n < 10 ^ 64 → decimal m ≡ decimal n → m ≡ n
 same_decimal m n hm hn e = sym (decimal_is_IsNumeral_wide m hm).1 ∙ ap (digits_value 10) e ∙ (decimal_is_IsNumeral_wide n hn).1

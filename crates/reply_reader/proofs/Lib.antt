@@ -1,3 +1,7 @@
+pub mod Alike
 pub mod Composing
 pub mod Decimals
+pub mod Formed
+pub mod Found
 pub mod LineForms
+pub mod Standing

@@ -167,3 +167,10 @@ pub fn is_form(words: &Words, first: &[u8], number: usize) -> bool
     }
     words.get(0) == first
 }
+
+/// Whether this word stands in the place.
+pub fn is_word(words: &Words, place: usize, expected: &[u8]) -> bool
+    ensures { IsTrue result ↔ (word words.now place ≡ expected.now) }
+{
+    words.get(place) == expected
+}

@@ -3,12 +3,16 @@
 //! All coordinates are whole micrometres, and a cost is counted in micrometres of wire.
 #![tactic(auto)]
 
+mod blocks;
+mod certs;
 mod conns;
 mod fields;
+mod first_lines;
 mod heads;
 mod lines;
 mod parts;
 mod places;
+mod planes;
 mod readings;
 mod words;
 
