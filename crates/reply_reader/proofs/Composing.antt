@@ -2,6 +2,7 @@
 use Rattle.std.proofs.Common.{get_or, take, drop, drop-cons, ◌≡◌, ℕ, zero, suc, ◌+◌, ◌-◌, ◌<◌, ◌≤◌, List, [], ◌∷◌, ◌++◌, length, All, Err, ◌⊎◌, inl, inr, refl, sym, ap, ◌∙◌, subst, arith, append_assoc, length-append, replicate}
 use Rattle.std.specs.List.{flat_map, AllByRecursion as ByRecursion}
 use Rattle.std.proofs.lemmas.List.{append_cancel_left, append-nil, take-append-drop, drop-drop, length-replicate}
+use Rattle.std.proofs.lemmas.Bool.{cases_lt}
 use Rattle.std.proofs.lemmas.List.Elements.{All-append, All-from_recursion, recursion_from_All, All-replicate, All-nil, All-cons}
 use Rattle.std.proofs.lemmas.Grind.{flat_map-append, common_steps}
 use Rattle.reply_reader.specs.declared.places.Place.{Place}
@@ -240,38 +241,44 @@ module _ {X Y : Type 0} (p : Part X) (q : X → Part Y) where
     passed = passed_both (drop old.at bytes) (drop mid.at bytes) (drop new.at bytes) old.line mid.line new.line (p.text x) ((q x).text y) r.passed s.passed;
   }
 
--- Two parts that spell the same, each value of the one as one of the other.
+-- The value is made of one of another part.
+pub record IsMadeFrom {X Y : Type 0} (q : Part Y) (from : Y → X) (x : X) : Type 0 where
+  pub inner : Y
+  pub good : q.IsGood inner
+  pub made : from inner ≡ x
+
+-- Two parts that spell the same: each value of the one is made of one of the other.
 pub record IsSpelledAs {X Y : Type 0} (p : Part X) (q : Part Y) : Type 0 where
-  pub to : X → Y
   pub from : Y → X
-  pub good_to : (x : X) → p.IsGood x → q.IsGood (to x)
-  pub good_from : (y : Y) → q.IsGood y → p.IsGood (from y)
-  pub text_to : (x : X) → p.IsGood x → p.text x ≡ q.text (to x)
-  pub text_from : (y : Y) → q.IsGood y → p.text (from y) ≡ q.text y
-  pub back : (x : X) → p.IsGood x → from (to x) ≡ x
+  pub good : (y : Y) → q.IsGood y → p.IsGood (from y)
+  pub text : (y : Y) → q.IsGood y → p.text (from y) ≡ q.text y
+  pub back : (x : X) → p.IsGood x → IsMadeFrom q from x
 
 module _ {X Y : Type 0} (p : Part X) (q : Part Y) (w : IsSpelledAs p q) where
+  inner_text : (x : X) (g : p.IsGood x) → q.text (w.back x g).inner ≡ p.text x
+  inner_text x g = sym (w.text (w.back x g).inner (w.back x g).good) ∙ ap p.text (w.back x g).made
+
   pub refused_as : (bytes : List ℕ) (line n : ℕ) → IsRefusedIn (IsTextOf q) bytes line n → IsRefusedIn (IsTextOf p) bytes line n
   refused_as bytes line n r =
       refused_front (IsTextOf q) (IsTextOf p)
       (λ front g. record {
         rest = g.rest;
-        text = record { value = w.from g.text.value; good = w.good_from g.text.value g.text.good; is = w.text_from g.text.value g.text.good ∙ g.text.is };
+        text = record { value = w.from g.text.value; good = w.good g.text.value g.text.good; is = w.text g.text.value g.text.good ∙ g.text.is };
       })
-      (λ text t. (text, [], record { value = w.to t.value; good = w.good_to t.value t.good; is = sym (w.text_to t.value t.good) ∙ t.is }, sym (append-nil text)))
+      (λ text t. (text, [], record { value = (w.back t.value t.good).inner; good = (w.back t.value t.good).good; is = inner_text t.value t.good ∙ t.is }, sym (append-nil text)))
       bytes line n r
 
   pub read_as : (bytes : List ℕ) (old new : Place) (y : Y) → IsRead q bytes old new y → IsRead p bytes old new (w.from y)
   read_as bytes old new y r =
       let P : List ℕ → Type 0 = λ (t : List ℕ). IsPassed (drop old.at bytes) old.line t (drop new.at bytes) new.line in
-      record { good = w.good_from y r.good; passed = subst P (sym (w.text_from y r.good)) r.passed }
+      record { good = w.good y r.good; passed = subst P (sym (w.text y r.good)) r.passed }
 
   pub one_as : IsOne q → IsOne p
   one_as o = record {
     same = λ x z s t gx gz e.
-      let there : w.to x ≡ w.to z = o.same (w.to x) (w.to z) s t (w.good_to x gx) (w.good_to z gz)
-          (ap (λ (l : List ℕ). l ++ s) (sym (w.text_to x gx)) ∙ e ∙ ap (λ (l : List ℕ). l ++ t) (w.text_to z gz)) in
-      sym (w.back x gx) ∙ ap w.from there ∙ w.back z gz;
+      let there : (w.back x gx).inner ≡ (w.back z gz).inner = o.same (w.back x gx).inner (w.back z gz).inner s t (w.back x gx).good (w.back z gz).good
+          (ap (λ (l : List ℕ). l ++ s) (inner_text x gx) ∙ e ∙ ap (λ (l : List ℕ). l ++ t) (sym (inner_text z gz))) in
+      sym (w.back x gx).made ∙ ap w.from there ∙ (w.back z gz).made;
   }
 
 module _ {X : Type 0} (p : Part X) (o : IsOne p) where
@@ -402,3 +409,114 @@ pub fails_as : {X Y : Type 0} (p : Part X) (q : Part Y) (w : IsSpelledAs p q) (b
     → Tells q bytes old mid (Err e) → Tells p bytes old new (Err e)
 fails_as p q w bytes old mid new (Refused n) f = refused_as p q w (drop old.at bytes) old.line n f
 fails_as p q w bytes old mid new NoMemory f = tt
+
+-- Some texts of a part, one after the other.
+record IsSomeOf {X : Type 0} (p : Part X) (bytes : List ℕ) : Type 0 where
+  first : X
+  others : List X
+  good : ByRecursion p.IsGood (first ∷ others)
+  is : p.text first ++ flat_map p.text others ≡ bytes
+
+-- the bytes are the texts of a list of values
+pub record IsAllOf {X : Type 0} (p : Part X) (bytes : List ℕ) : Type 0 where
+  pub values : List X
+  pub good : ByRecursion p.IsGood values
+  pub is : flat_map p.text values ≡ bytes
+
+module _ {X : Type 0} (p : Part X) (o : IsOne p) where
+  -- a list of texts that begins with those of another list goes on with some of them
+  go_on : (xs : List X) → ByRecursion p.IsGood xs → (v : List ℕ) → 0 < length v → IsAllOf p (flat_map p.text xs ++ v) → IsSomeOf p v
+  go_on xs good v some all = by (cases_lt (length all.values) (length xs))
+    where
+      by : (length all.values < length xs) ⊎ (length xs ≤ length all.values) → IsSomeOf p v
+      by (inl lt) =
+          let f : (zs : List X) × (xs ≡ all.values ++ zs) =
+            front_of_list p o all.values xs [] v all.good good (omega arith) (append-nil (flat_map p.text all.values) ∙ all.is) in
+          let long : length (flat_map p.text xs) ≡ length (flat_map p.text all.values) + length (flat_map p.text f.0) =
+            ap (λ (l : List X). length (flat_map p.text l)) f.1 ∙ ap length (flat_map-append p.text all.values f.0) ∙ length-append (flat_map p.text all.values) (flat_map p.text f.0) in
+          let same : length (flat_map p.text all.values) ≡ length (flat_map p.text xs) + length v = ap length all.is ∙ length-append (flat_map p.text xs) v in
+          absurd (omega arith)
+      by (inr le) =
+          let f : (zs : List X) × (all.values ≡ xs ++ zs) =
+            front_of_list p o xs all.values v [] good all.good le (sym all.is ∙ sym (append-nil (flat_map p.text all.values))) in
+          let rest : flat_map p.text f.0 ≡ v =
+            append_cancel_left (flat_map p.text xs) (flat_map p.text f.0) v
+            (sym (flat_map-append p.text xs f.0) ∙ ap (λ (l : List X). flat_map p.text l) (sym f.1) ∙ all.is) in
+          more f.0 (behind xs f.0 (subst (ByRecursion p.IsGood) f.1 all.good)) rest
+        where
+          behind : (ks bs : List X) → ByRecursion p.IsGood (ks ++ bs) → ByRecursion p.IsGood bs
+          behind [] bs h = h
+          behind (a ∷ ks) bs h = behind ks bs h.1
+          more : (zs : List X) → ByRecursion p.IsGood zs → flat_map p.text zs ≡ v → IsSomeOf p v
+          more [] g e = let none : length v ≡ 0 = ap length (sym e) in absurd (omega arith)
+          more (z ∷ zs) g e = record { first = z; others = zs; good = g; is = e }
+
+  -- where some texts were passed and the next is refused, the bytes are no list of texts
+  pub refused_last : (xs : List X) → ByRecursion p.IsGood xs → (bytes after : List ℕ) (next n : ℕ) → 0 < length after
+      → IsPassed bytes 1 (flat_map p.text xs) after next → IsRefusedIn (IsTextOf p) after next n
+      → (IsAllOf p bytes → ⊥) × StopsAt (IsAllOf p) bytes n
+  refused_last xs good bytes after next n some passed r = (none, stop)
+    where
+      s : List ℕ
+      s = flat_map p.text xs
+      refused : IsRefusedIn (IsSomeOf p) after next n
+      refused = refused_front (IsTextOf p) (IsSomeOf p)
+          (λ front g. record {
+            rest = g.rest;
+            text = record { first = g.text.value; others = []; good = (g.text.good, tt); is = append-nil (p.text g.text.value) ∙ g.text.is };
+          })
+          (λ w t. (p.text t.first, flat_map p.text t.others, record { value = t.first; good = t.good.0; is = refl }, sym t.is))
+          after next n r
+      none : IsAllOf p bytes → ⊥
+      none all = refused.none after [] (go_on xs good after some (subst (IsAllOf p) passed.cut all)) (sym (append-nil after))
+      joins : (t : List ℕ) → IsSomeOf p t → IsAllOf p (flat_map p.text xs ++ t)
+      joins t m = record {
+        values = xs ++ (m.first ∷ m.others);
+        good = joined xs (m.first ∷ m.others) good m.good;
+        is = flat_map-append p.text xs (m.first ∷ m.others) ∙ ap (λ (l : List ℕ). flat_map p.text xs ++ l) m.is;
+      }
+        where
+          joined : (ks bs : List X) → ByRecursion p.IsGood ks → ByRecursion p.IsGood bs → ByRecursion p.IsGood (ks ++ bs)
+          joined [] bs g h = h
+          joined (k ∷ ks) bs g h = (g.0, joined ks bs g.1 h)
+      both : flat_map p.text xs ++ lines_text refused.stop.lines ≡ lines_text (passed.lines ++ refused.stop.lines)
+      both = ap (λ (t : List ℕ). t ++ lines_text refused.stop.lines) passed.whole ∙ sym (flat_map-append (λ l. l ++ 10 ∷ []) passed.lines refused.stop.lines)
+      joined_begun : Begins (IsSomeOf p) (lines_text refused.stop.lines) → Begins (IsAllOf p) (flat_map p.text xs ++ lines_text refused.stop.lines)
+      joined_begun g = record { rest = g.rest; text = subst (IsAllOf p) (sym (append_assoc (flat_map p.text xs) (lines_text refused.stop.lines) g.rest)) (joins (lines_text refused.stop.lines ++ g.rest) g.text) }
+      wrong_line : IsWrongLine (IsSomeOf p) (lines_text refused.stop.lines) refused.stop.after → IsWrongLine (IsAllOf p) (lines_text (passed.lines ++ refused.stop.lines)) refused.stop.after
+      wrong_line w = record {
+        line = w.line;
+        rest = w.rest;
+        next = w.next;
+        one = w.one;
+        wrong = λ (g : Begins (IsAllOf p) (lines_text (passed.lines ++ refused.stop.lines) ++ w.line ++ 10 ∷ [])).
+          let front : List ℕ = lines_text refused.stop.lines ++ w.line ++ 10 ∷ [] in
+          let regrouped : lines_text (passed.lines ++ refused.stop.lines) ++ w.line ++ 10 ∷ [] ++ g.rest ≡ flat_map p.text xs ++ (front ++ g.rest) =
+            ap (λ (x : List ℕ). x ++ w.line ++ 10 ∷ [] ++ g.rest) (sym both) ∙ simp append_assoc in
+          let long : 0 < length (front ++ g.rest) =
+            omega (arith, length-append front g.rest, length-append (lines_text refused.stop.lines ++ w.line) (10 ∷ [])) in
+          w.wrong (record { rest = g.rest; text = go_on xs good (front ++ g.rest) long (subst (IsAllOf p) regrouped g.text) });
+      }
+      stop : StopsAt (IsAllOf p) bytes n
+      stop = record {
+        lines = passed.lines ++ refused.stop.lines;
+        after = refused.stop.after;
+        cut = passed.cut ∙ ap (λ (t : List ℕ). flat_map p.text xs ++ t) refused.stop.cut ∙ sym (append_assoc (flat_map p.text xs) (lines_text refused.stop.lines) refused.stop.after)
+            ∙ ap (λ (t : List ℕ). t ++ refused.stop.after) both;
+        each = All-append IsOneLine passed.lines refused.stop.lines passed.each refused.stop.each;
+        number = let a = refused.stop.number in let b = refused.number in let d = passed.number in omega (arith, length-append passed.lines refused.stop.lines);
+        begun = subst (Begins (IsAllOf p)) both (joined_begun refused.stop.begun);
+        stop = elim refused.stop.stop [ inl w ↦ inl (wrong_line w) | inr m ↦ inr m ];
+      }
+
+  -- the values that texts one after the other spell are determined
+  pub one_list : (xs ys : List X) → ByRecursion p.IsGood xs → ByRecursion p.IsGood ys → ((x : X) → p.IsGood x → 0 < length (p.text x))
+      → flat_map p.text xs ≡ flat_map p.text ys → xs ≡ ys
+  one_list [] [] gx gy some e = refl
+  one_list [] (y ∷ ys) gx gy some e = let s = some y gy.0 in absurd (omega (arith, ap length e, length-append (p.text y) (flat_map p.text ys)))
+  one_list (x ∷ xs) [] gx gy some e = let s = some x gx.0 in absurd (omega (arith, ap length e, length-append (p.text x) (flat_map p.text xs)))
+  one_list (x ∷ xs) (y ∷ ys) gx gy some e =
+      let first : x ≡ y = o.same x y (flat_map p.text xs) (flat_map p.text ys) gx.0 gy.0 e in
+      let tails : flat_map p.text xs ≡ flat_map p.text ys =
+        append_cancel_left (p.text x) (flat_map p.text xs) (flat_map p.text ys) (e ∙ ap (λ (z : X). p.text z ++ flat_map p.text ys) (sym first)) in
+      ap (λ (z : X). z ∷ xs) first ∙ ap (λ (l : List X). y ∷ l) (one_list xs ys gx.1 gy.1 some tails)

@@ -3,5 +3,6 @@ pub mod Composing
 pub mod Decimals
 pub mod Formed
 pub mod Found
+pub mod Joining
 pub mod LineForms
 pub mod Standing

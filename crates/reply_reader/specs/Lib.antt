@@ -1,3 +1,4 @@
+pub mod Blocks
 pub mod Fields
 pub mod Forms
 pub mod InRange
