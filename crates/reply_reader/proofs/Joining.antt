@@ -81,7 +81,7 @@ item_spelled b h v ls e =
     ap (λ (n : ℕ). conn_line h.number h.cost n ++ at_line b v ++ flat_map (leg_text b) ls) e
     ∙ append_assoc (conn_line h.number h.cost h.legs) (at_line b v) (flat_map (leg_text b) ls)
 
-pub item_as : (b : BoardParts) → IsSpelledAs (item_block b) (item_parts b)
+unfoldable pub item_as : (b : BoardParts) → IsSpelledAs (item_block b) (item_parts b)
 item_as b = record {
   from = item_from;
   good = λ y g. (record { start = g.1.0.0; legs = first_all (IsRegularLeg b) IsLegInRange y.1.1 g.1.1.1 },
@@ -115,7 +115,7 @@ cert_made : (b : BoardParts) (h : CertHead) (es : List Entry) → length es ≡ 
 unfolding cert_text
 cert_made b h es e = ap (λ (n : ℕ). cert_line h.bound n ++ flat_map (entry_line b).text es) e
 
-pub cert_as : (b : BoardParts) → IsSpelledAs (cert_block b) (cert_parts b)
+unfoldable pub cert_as : (b : BoardParts) → IsSpelledAs (cert_block b) (cert_parts b)
 cert_as b = record {
   from = cert_from;
   good = λ y g. (first_all (IsRegularEntry b) IsEntryInRange y.1 g.1.1,
@@ -139,7 +139,7 @@ made_spelled : (b : BoardParts) (m : Made1) → made_text b false m ≡ conn_tex
 unfolding made_text
 made_spelled b m = refl
 
-pub made_as : (b : BoardParts) → IsSpelledAs (made_block b) (made_parts b)
+unfoldable pub made_as : (b : BoardParts) → IsSpelledAs (made_block b) (made_parts b)
 made_as b = record {
   from = made_from;
   good = λ y g. (record { conn = g.0.0; cert = g.1.0 }, record { number = g.0.1.number; conn = g.0.1.conn; cert = g.1.1 });
@@ -155,7 +155,7 @@ made_as b = record {
 abbrev pub fail_parts : BoardParts → Part (NoneHead × Cert)
 fail_parts b = followed_by none_head (λ h. cert_block b)
 
-pub fail_as : (b : BoardParts) → IsSpelledAs (fail_block b) (fail_parts b)
+unfoldable pub fail_as : (b : BoardParts) → IsSpelledAs (fail_block b) (fail_parts b)
 fail_as b = record {
   from = λ (p : NoneHead × Cert). record { number = p.0.number; cert = p.1 };
   good = λ y g. (g.1.0, g.0, g.1.1);
@@ -164,7 +164,7 @@ fail_as b = record {
 }
 
 -- there is one that cannot be made exactly where fewer were made than were missing
-pub rest_as : (b : BoardParts) (missing made : ℕ) → made < missing → IsSpelledAs (rest_block b missing made) (fail_block b)
+unfoldable pub rest_as : (b : BoardParts) (missing made : ℕ) → made < missing → IsSpelledAs (rest_block b missing made) (fail_block b)
 rest_as b missing made lt = record {
   from = Some;
   good = λ y g. ((lt, g.0), (g.1, g.2));
@@ -186,7 +186,7 @@ routed_parts b h = followed_by (counted h.made (made_block b)) (λ ms. rest_bloc
 abbrev routed_from : RouteHead → List Made1 × Option Fail → Routed
 routed_from h p = record { net = h.net; missing = h.missing; made = p.0; none = p.1 }
 
-pub routed_rest_as : (b : BoardParts) (h : RouteHead) → IsRouteHead b h → IsSpelledAs (routed_rest b h) (routed_parts b h)
+unfoldable pub routed_rest_as : (b : BoardParts) (h : RouteHead) → IsRouteHead b h → IsSpelledAs (routed_rest b h) (routed_parts b h)
 routed_rest_as b h known = record {
   from = routed_from h;
   good = λ y g.
@@ -229,7 +229,7 @@ made_few : (missing made : ℕ) (b : BoardParts) (o : Option Fail) → IsRegular
 made_few missing made b None e = omega arith
 made_few missing made b (Some f) e = let lt = e.0 in omega arith
 
-pub routed_as : (b : BoardParts) → IsSpelledAs (routed_block b) (routed_whole b)
+unfoldable pub routed_as : (b : BoardParts) → IsSpelledAs (routed_block b) (routed_whole b)
 routed_as b = record {
   from = λ (p : RouteHead × Routed). p.1;
   good = λ y g. g.1.0;
@@ -242,7 +242,7 @@ routed_as b = record {
   };
 }
 
-pub route_rest_as : (b : BoardParts) (h : RouteHead) → IsHead b (head.Route h) → IsSpelledAs (reply_rest b (head.Route h)) (routed_rest b h)
+unfoldable pub route_rest_as : (b : BoardParts) (h : RouteHead) → IsHead b (head.Route h) → IsSpelledAs (reply_rest b (head.Route h)) (routed_rest b h)
 route_rest_as b h known = record { from = reply.Route; good = λ y g. (g.0, ap head.Route g.1); text = λ y g. refl; back = λ x g. back x g.0 g.1 }
   where
     back : (x : Reply) → (reply_block b).IsGood x → reply_head x ≡ (head.Route h) → IsMadeFrom (routed_rest b h) (reply.Route) x
@@ -253,7 +253,7 @@ route_rest_as b h known = record { from = reply.Route; good = λ y g. (g.0, ap h
     back (reply.Rules vs) g f = absurd cc
     back (reply.Strips p q ss) g f = absurd cc
 
-pub all_rest_as : (b : BoardParts) (n : ℕ) → IsHead b (head.All n) → IsSpelledAs (reply_rest b (head.All n)) (counted n (routed_block b))
+unfoldable pub all_rest_as : (b : BoardParts) (n : ℕ) → IsHead b (head.All n) → IsSpelledAs (reply_rest b (head.All n)) (counted n (routed_block b))
 all_rest_as b n known = record { from = reply.All; good = λ y g. ((first_all (IsRegularRouted b) IsRoutedInRange y g.1, (subst IsCount (sym g.0) known.0, second_all (IsRegularRouted b) IsRoutedInRange y g.1)), ap head.All g.0); text = λ y g. refl; back = λ x g. back x g.0 g.1 }
   where
     back : (x : Reply) → (reply_block b).IsGood x → reply_head x ≡ (head.All n) → IsMadeFrom (counted n (routed_block b)) (reply.All) x
@@ -264,7 +264,7 @@ all_rest_as b n known = record { from = reply.All; good = λ y g. ((first_all (I
     back (reply.Rules vs) g f = absurd cc
     back (reply.Strips p q ss) g f = absurd cc
 
-pub show_rest_as : (b : BoardParts) (n : NetId) (d k : ℕ) → IsHead b (head.Show n d k) → IsSpelledAs (reply_rest b (head.Show n d k)) (counted k (item_block b))
+unfoldable pub show_rest_as : (b : BoardParts) (n : NetId) (d k : ℕ) → IsHead b (head.Show n d k) → IsSpelledAs (reply_rest b (head.Show n d k)) (counted k (item_block b))
 show_rest_as b n d k known = record { from = reply.Show n d; good = λ y g. (((known.0, known.1, first_all (IsRegularItem b) IsItemInRange y g.1), (known.2, subst IsCount (sym g.0) known.3, second_all (IsRegularItem b) IsItemInRange y g.1)), ap (head.Show n d) g.0); text = λ y g. refl; back = λ x g. back x g.0 g.1 }
   where
     back : (x : Reply) → (reply_block b).IsGood x → reply_head x ≡ (head.Show n d k) → IsMadeFrom (counted k (item_block b)) (reply.Show n d) x
@@ -275,7 +275,7 @@ show_rest_as b n d k known = record { from = reply.Show n d; good = λ y g. (((k
     back (reply.Rules vs) g f = absurd cc
     back (reply.Strips p q ss) g f = absurd cc
 
-pub rules_rest_as : (b : BoardParts) (k : ℕ) → IsHead b (head.Rules k) → IsSpelledAs (reply_rest b (head.Rules k)) (counted k (violation_line b))
+unfoldable pub rules_rest_as : (b : BoardParts) (k : ℕ) → IsHead b (head.Rules k) → IsSpelledAs (reply_rest b (head.Rules k)) (counted k (violation_line b))
 rules_rest_as b k known = record { from = reply.Rules; good = λ y g. ((first_all (IsRegularViolation b) IsViolationInRange y g.1, (subst IsCount (sym g.0) known, second_all (IsRegularViolation b) IsViolationInRange y g.1)), ap head.Rules g.0); text = λ y g. refl; back = λ x g. back x g.0 g.1 }
   where
     back : (x : Reply) → (reply_block b).IsGood x → reply_head x ≡ (head.Rules k) → IsMadeFrom (counted k (violation_line b)) (reply.Rules) x
@@ -286,7 +286,7 @@ rules_rest_as b k known = record { from = reply.Rules; good = λ y g. ((first_al
     back (reply.Rules vs) g e = record { inner = vs; good = (let f : head.Rules (length vs) ≡ head.Rules k = e in cc, both_all (IsRegularViolation b) IsViolationInRange vs g.0 g.1.1); made = refl }
     back (reply.Strips p q ss) g f = absurd cc
 
-pub strips_rest_as : (b : BoardParts) (l : LayerId) (c : ClassId) (k : ℕ) → IsHead b (head.Strips l c k) → IsSpelledAs (reply_rest b (head.Strips l c k)) (counted k (strip_line b))
+unfoldable pub strips_rest_as : (b : BoardParts) (l : LayerId) (c : ClassId) (k : ℕ) → IsHead b (head.Strips l c k) → IsSpelledAs (reply_rest b (head.Strips l c k)) (counted k (strip_line b))
 strips_rest_as b l c k known = record { from = reply.Strips l c; good = λ y g. (((known.0, known.1, first_all (IsRegularStrip b) IsStripInRange y g.1), (subst IsCount (sym g.0) known.2, second_all (IsRegularStrip b) IsStripInRange y g.1)), ap (head.Strips l c) g.0); text = λ y g. refl; back = λ x g. back x g.0 g.1 }
   where
     back : (x : Reply) → (reply_block b).IsGood x → reply_head x ≡ (head.Strips l c k) → IsMadeFrom (counted k (strip_line b)) (reply.Strips l c) x
@@ -321,7 +321,7 @@ head_good b (reply.Show n d is) g = (g.0.0, g.0.1, g.1.0, g.1.1)
 head_good b (reply.Rules vs) g = g.1.0
 head_good b (reply.Strips l c ss) g = (g.0.0, g.0.1, g.1.0)
 
-pub reply_as : (b : BoardParts) → IsSpelledAs (reply_block b) (reply_whole b)
+unfoldable pub reply_as : (b : BoardParts) → IsSpelledAs (reply_block b) (reply_whole b)
 reply_as b = record {
   from = λ (p : Head × Reply). p.1;
   good = λ y g. g.1.0;

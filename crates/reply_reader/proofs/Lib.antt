@@ -1,6 +1,7 @@
 pub mod Alike
 pub mod Composing
 pub mod Decimals
+pub mod Exits
 pub mod Formed
 pub mod Found
 pub mod Joining

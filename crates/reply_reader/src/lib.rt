@@ -14,6 +14,7 @@ mod parts;
 mod places;
 mod planes;
 mod readings;
+mod replies;
 mod words;
 
 pub use readings::{ReadReplies, read_replies};
