@@ -55,13 +55,13 @@ use Rattle.reply_reader.specs.Parts.{Part}
 use Rattle.reply_reader.specs.Said.{conn_head, conn_head_words, IsConnHeadAt, start, node_words, start_words, IsStartAt, leg_line, leg_words, IsWireAt, IsViaAt, IsLegAt, cert_head, cert_head_words, IsBoundAt, IsCertHeadAt, entry_line, area_words, entry_rest_words, origin_words, entry_words, origin_place, IsViaOriginAt, IsOriginOfAt, IsOriginAt, IsEntryRestAt, IsEntryAt, none_head, none_head_words, IsNoneHeadAt, IsRouteHead, route_head, route_head_words, IsNetAt, IsRouteHeadAt, IsHead, head_text, head_line, head_words, IsAllAt, IsRipAt, IsShowAt, IsRulesAt, IsStripsAt, IsHeadAt, violation_line, owner_words, owned_words, violation_words, owner_place, IsOwnerAt, IsOwnedAt, after_owned, IsCloseAt, IsOutlineAt, IsViolationAt, strip_line, label_words, strip_words, label_place, IsOneAt, IsLabelAt, IsStripAt}
 
 -- each of two things that hold of all
-both_all : {X : Type 0} (P Q : X → Type 0) (xs : List X) → All P xs → All Q xs → All (λ x. P x × Q x) xs
+pub both_all : {X : Type 0} (P Q : X → Type 0) (xs : List X) → All P xs → All Q xs → All (λ x. P x × Q x) xs
 both_all P Q xs p q k d lt = (p k d lt, q k d lt)
 
-first_all : {X : Type 0} (P Q : X → Type 0) (xs : List X) → All (λ x. P x × Q x) xs → All P xs
+pub first_all : {X : Type 0} (P Q : X → Type 0) (xs : List X) → All (λ x. P x × Q x) xs → All P xs
 first_all P Q xs h k d lt = (h k d lt).0
 
-second_all : {X : Type 0} (P Q : X → Type 0) (xs : List X) → All (λ x. P x × Q x) xs → All Q xs
+pub second_all : {X : Type 0} (P Q : X → Type 0) (xs : List X) → All (λ x. P x × Q x) xs → All Q xs
 second_all P Q xs h k d lt = (h k d lt).1
 
 -- a connection: its first line, where it starts, and its legs
@@ -71,10 +71,10 @@ conn_rest b h = followed_by (start b) (λ v. counted h.legs (leg_line b))
 abbrev pub item_parts : BoardParts → Part (ConnHead × (Node × List Leg))
 item_parts b = followed_by conn_head (conn_rest b)
 
-abbrev item_from : ConnHead × (Node × List Leg) → Item
+abbrev pub item_from : ConnHead × (Node × List Leg) → Item
 item_from p = record { number = p.0.number; conn = record { start = p.1.0; legs = p.1.1; cost = p.0.cost } }
 
-item_spelled : (b : BoardParts) (h : ConnHead) (v : Node) (ls : List Leg) → length ls ≡ h.legs
+pub item_spelled : (b : BoardParts) (h : ConnHead) (v : Node) (ls : List Leg) → length ls ≡ h.legs
     → item_text b (item_from (h, (v, ls))) ≡ conn_line h.number h.cost h.legs ++ (at_line b v ++ flat_map (leg_text b) ls)
 unfolding conn_text
 item_spelled b h v ls e =
@@ -107,10 +107,10 @@ item_as b = record {
 abbrev pub cert_parts : BoardParts → Part (CertHead × List Entry)
 cert_parts b = followed_by cert_head (λ h. counted h.entries (entry_line b))
 
-abbrev cert_from : CertHead × List Entry → Cert
+abbrev pub cert_from : CertHead × List Entry → Cert
 cert_from p = record { bound = p.0.bound; entries = p.1 }
 
-cert_made : (b : BoardParts) (h : CertHead) (es : List Entry) → length es ≡ h.entries
+pub cert_made : (b : BoardParts) (h : CertHead) (es : List Entry) → length es ≡ h.entries
     → cert_text b (cert_from (h, es)) ≡ cert_line h.bound h.entries ++ flat_map (entry_line b).text es
 unfolding cert_text
 cert_made b h es e = ap (λ (n : ℕ). cert_line h.bound n ++ flat_map (entry_line b).text es) e
@@ -132,10 +132,10 @@ cert_as b = record {
 abbrev pub made_parts : BoardParts → Part (Item × Cert)
 made_parts b = followed_by (item_block b) (λ i. cert_block b)
 
-abbrev made_from : Item × Cert → Made1
+abbrev pub made_from : Item × Cert → Made1
 made_from p = record { number = p.0.number; conn = p.0.conn; cert = p.1 }
 
-made_spelled : (b : BoardParts) (m : Made1) → made_text b false m ≡ conn_text b m.number m.conn ++ cert_text b m.cert
+pub made_spelled : (b : BoardParts) (m : Made1) → made_text b false m ≡ conn_text b m.number m.conn ++ cert_text b m.cert
 unfolding made_text
 made_spelled b m = refl
 
@@ -183,7 +183,7 @@ rest_none b missing made e = (e, tt)
 abbrev pub routed_parts : BoardParts → RouteHead → Part (List Made1 × Option Fail)
 routed_parts b h = followed_by (counted h.made (made_block b)) (λ ms. rest_block b h.missing h.made)
 
-abbrev routed_from : RouteHead → List Made1 × Option Fail → Routed
+abbrev pub routed_from : RouteHead → List Made1 × Option Fail → Routed
 routed_from h p = record { net = h.net; missing = h.missing; made = p.0; none = p.1 }
 
 unfoldable pub routed_rest_as : (b : BoardParts) (h : RouteHead) → IsRouteHead b h → IsSpelledAs (routed_rest b h) (routed_parts b h)
@@ -221,11 +221,11 @@ routed_rest_as b h known = record {
 abbrev pub routed_whole : BoardParts → Part (RouteHead × Routed)
 routed_whole b = followed_by (route_head b) (routed_rest b)
 
-routed_spelled : (b : BoardParts) (r : Routed) → routed_text b false r ≡ route_line b r.net (length r.made) r.missing ++ (flat_map (made_text b false) r.made ++ rest_text b false r.none)
+pub routed_spelled : (b : BoardParts) (r : Routed) → routed_text b false r ≡ route_line b r.net (length r.made) r.missing ++ (flat_map (made_text b false) r.made ++ rest_text b false r.none)
 unfolding routed_text
 routed_spelled b r = append_assoc (route_line b r.net (length r.made) r.missing) (flat_map (made_text b false) r.made) (rest_text b false r.none)
 
-made_few : (missing made : ℕ) (b : BoardParts) (o : Option Fail) → IsRegularRest b missing made o → made ≤ missing
+pub made_few : (missing made : ℕ) (b : BoardParts) (o : Option Fail) → IsRegularRest b missing made o → made ≤ missing
 made_few missing made b None e = omega arith
 made_few missing made b (Some f) e = let lt = e.0 in omega arith
 
@@ -301,7 +301,7 @@ strips_rest_as b l c k known = record { from = reply.Strips l c; good = λ y g. 
 abbrev pub reply_whole : BoardParts → Part (Head × Reply)
 reply_whole b = followed_by (head_line b) (reply_rest b)
 
-reply_spelled : (b : BoardParts) (r : Reply) → reply_text b false r ≡ head_text b (reply_head r) ++ reply_rest_text b r
+pub reply_spelled : (b : BoardParts) (r : Reply) → reply_text b false r ≡ head_text b (reply_head r) ++ reply_rest_text b r
 reply_spelled b (reply.Route r) = routed_spelled b r
 reply_spelled b (reply.All rs) = refl
 reply_spelled b (reply.Rip n k) = sym (append-nil (head_text b (head.Rip n k)))
@@ -309,11 +309,11 @@ reply_spelled b (reply.Show n d is) = refl
 reply_spelled b (reply.Rules vs) = refl
 reply_spelled b (reply.Strips l c ss) = refl
 
-some_net : (b : BoardParts) (rs : List Routed) → All (IsRegularRouted b) rs → 0 < length rs → 0 < length b.net_names
+pub some_net : (b : BoardParts) (rs : List Routed) → All (IsRegularRouted b) rs → 0 < length rs → 0 < length b.net_names
 some_net b [] h lt = absurd (omega arith)
 some_net b (r ∷ rs) h lt = let known = (recursion_from_All (IsRegularRouted b) (r ∷ rs) h).0.net in omega arith
 
-head_good : (b : BoardParts) (r : Reply) → (reply_block b).IsGood r → IsHead b (reply_head r)
+pub head_good : (b : BoardParts) (r : Reply) → (reply_block b).IsGood r → IsHead b (reply_head r)
 head_good b (reply.Route r) g = (g.0.net, g.1.missing, made_few r.missing (length r.made) b r.none g.0.rest)
 head_good b (reply.All rs) g = (g.1.0, some_net b rs g.0)
 head_good b (reply.Rip n k) g = (g.0, g.1)
