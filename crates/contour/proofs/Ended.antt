@@ -4,7 +4,7 @@ use Rattle.board_model.specs.declared.commands.Command.{Command}
 use Rattle.board_model.specs.declared.parts.BoardParts.{BoardParts}
 use Rattle.board_reader.specs.Reading.{Told}
 use Rattle.contour.specs.declared.endings.Ending.{Ending}
-use Rattle.contour.specs.declared.endings.Ending.TheVariants.{BadWords, TooLong, Refused, ReadFault, WriteFault, NoMemory}
+use Rattle.contour.specs.declared.endings.Ending.TheVariants.{BadWords, TooLong, Refused, Wrong, ReadFault, WriteFault, NoMemory}
 use Rattle.contour.specs.declared.requests.Request.{Request}
 use Rattle.contour.specs.declared.requests.Request.TheVariants.{Run}
 use Rattle.contour.specs.Answers.{AnswersAll}
@@ -26,7 +26,8 @@ module _ (quiet : Bool) (left : Option (List ℕ)) (reads reads' : ℕ) where
   ends_reading held writes BadWords h = h
   ends_reading held writes TooLong h = h
   ends_reading held writes (Refused r) h = h
-  ends_reading held writes ReadFault h = h
+  ends_reading held writes (Wrong n) h = absurd h
+  ends_reading held writes ReadFault h = (tt, h)
   ends_reading held writes WriteFault h = absurd h
   ends_reading held writes NoMemory h = always_told left (AnswersNoneOrFirst quiet held held) (λ bytes. inl refl)
 
@@ -35,6 +36,7 @@ module _ (quiet : Bool) (left : Option (List ℕ)) (reads reads' : ℕ) where
   ends_replies held holds writes writes' told ok BadWords h = h
   ends_replies held holds writes writes' told ok TooLong h = absurd h
   ends_replies held holds writes writes' told ok (Refused r) h = absurd h
+  ends_replies held holds writes writes' told ok (Wrong n) h = absurd h
   ends_replies held holds writes writes' told ok ReadFault h = absurd h
   ends_replies held holds writes writes' told ok WriteFault h =
       (h.0, if_told-weaker left (IsAcceptedAs told) (CutsInputShort quiet held holds) (λ bytes accepted. record { told = told; accepted = accepted; answered = h.1 }) ok)
@@ -51,6 +53,7 @@ pub replies_begun : (b : BoardParts) (quiet : Bool) (cs : List Command) (held ho
 replies_begun b quiet cs held holds writes writes' BadWords h before = h
 replies_begun b quiet cs held holds writes writes' TooLong h before = h
 replies_begun b quiet cs held holds writes writes' (Refused r) h before = h
+replies_begun b quiet cs held holds writes writes' (Wrong n) h before = h
 replies_begun b quiet cs held holds writes writes' ReadFault h before = h
 replies_begun b quiet cs held holds writes writes' WriteFault h before = before
 replies_begun b quiet cs held holds writes writes' NoMemory h before = before

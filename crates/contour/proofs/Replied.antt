@@ -18,7 +18,7 @@ use Rattle.route_law.proofs.Running.{run-next}
 use Rattle.step_laws.proofs.Keeping.{run_state}
 use Rattle.reply_text.specs.Texts.{reply_text, replies_text}
 use Rattle.contour.specs.declared.endings.Ending.{Ending}
-use Rattle.contour.specs.declared.endings.Ending.TheVariants.{BadWords, TooLong, Refused, ReadFault, WriteFault, NoMemory}
+use Rattle.contour.specs.declared.endings.Ending.TheVariants.{BadWords, TooLong, Refused, Wrong, ReadFault, WriteFault, NoMemory}
 use Rattle.contour.specs.Endings.{EndsAnswer, EndsAnswers}
 use Rattle.contour.specs.Answers.{KeepsTheRules, AreReplies, AnswersAll, AnswersFirst, IsCutShort}
 use Rattle.contour.specs.Sessions.{IsUnderway, AnswersOne, AnswersPart}
@@ -111,6 +111,7 @@ module _ (b : BoardParts) (board : IsBoard b) where
   ends_all b' quiet cs n d old held between holds begun before after same lt known falls u BadWords h = h
   ends_all b' quiet cs n d old held between holds begun before after same lt known falls u TooLong h = h
   ends_all b' quiet cs n d old held between holds begun before after same lt known falls u (Refused r) h = h
+  ends_all b' quiet cs n d old held between holds begun before after same lt known falls u (Wrong m) h = h
   ends_all b' quiet cs n d old held between holds begun before after same lt known falls u ReadFault h = h
   ends_all b' quiet cs n d old held between holds begun before after same lt known falls u WriteFault h =
       (rose-from begun before after falls h.0, cut_short quiet cs n d old held between holds lt known u (subst (λ (x : BoardParts). AnswersPart x quiet old (get_or cs n d) between holds) same h.1))

@@ -10,7 +10,7 @@ use Rattle.route_law.specs.Regular.{IsRegular}
 use Rattle.route_law.specs.Steps.{IsStep}
 use Rattle.reply_text.specs.Texts.{reply_text}
 use Rattle.contour.specs.declared.endings.Ending.{Ending}
-use Rattle.contour.specs.declared.endings.Ending.TheVariants.{BadWords, TooLong, Refused, ReadFault, WriteFault, NoMemory}
+use Rattle.contour.specs.declared.endings.Ending.TheVariants.{BadWords, TooLong, Refused, Wrong, ReadFault, WriteFault, NoMemory}
 use Rattle.contour.specs.Endings.{EndsAnswer, EndsSending}
 use Rattle.contour.specs.Sessions.{AnswersOne, AnswersPart}
 
@@ -33,6 +33,7 @@ module _ (b : BoardParts) (quiet : Bool) (old : List (List Conn)) (c : Command) 
   ends_answer before after step regular BadWords h = h
   ends_answer before after step regular TooLong h = h
   ends_answer before after step regular (Refused r) h = h
+  ends_answer before after step regular (Wrong n) h = h
   ends_answer before after step regular ReadFault h = h
   ends_answer before after step regular WriteFault h =
       (h.0, record { reply = reply; new = new; step = step; regular = regular; written = h.1 })

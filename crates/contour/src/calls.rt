@@ -1,19 +1,23 @@
 ghost use Rattle.std.specs.Prelude.{◌≡◌, ◌≤◌, ◌↔◌, ◌⊎◌, [], map, string_bytes, All, OnOk, IfErr};
-ghost use Rattle.io_edge.specs.Streams.{Rose, IsToldAs};
+ghost use Rattle.io_edge.specs.Streams.{Appends, Rose, IsToldAs};
+ghost use Rattle.board_gen.specs.Generated.{generated};
 ghost use Rattle.board_model.specs.Commands.{IsCommandOf};
 ghost use Rattle.contour.specs.Answers.{AnswersAll};
-ghost use Rattle.contour.specs.Causes.{EndsAttempt, EndsCall, HasBeenCut, HasDone, HasRunOut, IsBeforeReplies, IsUnwritten, MustAccept, MustRefuse, Refuses, TellsStatus};
-ghost use Rattle.contour.specs.Endings.{EndsAnswers};
-ghost use Rattle.contour.specs.Requests.{IsNoRequest, IsRequestThat};
+ghost use Rattle.contour.specs.Causes.{EndsAttempt, EndsCall, HasBeenCut, HasDone, HasFoundWrong, HasRead, HasRunOut, IsBeforeReplies, IsUnwritten, MustAccept, MustRefuse, Refuses, TellsStatus};
+ghost use Rattle.contour.specs.Endings.{EndsAnswers, EndsSending};
+ghost use Rattle.contour.specs.Requests.{IsGood, IsNoRequest, IsRequestThat, IsSize, ReadsInput};
+ghost use Rattle.contour.specs.Texts.{right_text};
 
 use crate::answers::answer_each;
+use crate::checks::check_text;
 use crate::endings::{Ending, Status};
-use crate::inputs::read_text;
-use crate::lines::tell;
+use crate::inputs::{MAX_INPUT, read_text};
+use crate::lines::{right_line, tell};
 use crate::requests::{Request, request_of};
+use board_gen::generate;
 use board_model::{Board, Command};
 use flat_plane::FlatPlane;
-use io_edge::{Sink, Source};
+use io_edge::{Sink, Source, read_all, write_all};
 use std::alloc::Global;
 
 /// Makes the reply to each command over flat planes, and writes it before it begins the next.
@@ -52,6 +56,43 @@ fn run<S: Source, K: Sink>(
     answer_all(alloc, input.board, input.commands.as_slice(), quiet, out)
 }
 
+/// Writes the line that says how many replies are right.
+fn tell_right<K: Sink>(alloc: Global, count: u64, out: &mut K) -> Result<(), Ending>
+    ensures ok { OnOk result (Appends (K.written out.old) (K.written out.new) (right_text count)) }
+    ensures err { IfErr result (EndsSending (right_text count) (K.written out.old) (K.written out.new) (K.faults out.old) (K.faults out.new)) }
+    ensures setup { K.setup out.new ≡ K.setup out.old }
+{
+    write_all(out, right_line(alloc, count).as_slice())?;
+    Ok(())
+}
+
+/// Reads a board text and the text of replies, and says how many are right.
+fn check<S: Source, K: Sink>(alloc: Global, source: &mut S, out: &mut K) -> Result<(), Ending>
+    ensures done { OnOk result (HasDone (S.left source.old) (K.written out.old) (K.written out.new) Request.Check) }
+    ensures end { OnOk result (IsToldAs (S.left source.new) []) }
+    ensures err { IfErr result (EndsCall Request.Check (S.left source.old) (S.faults source.old) (S.faults source.new)
+        (K.written out.old) (K.written out.new) (K.faults out.old) (K.faults out.new)) }
+    ensures unwritten { IfErr result (λ e. IsBeforeReplies e → out.new ≡ out.old) }
+    ensures source_setup { S.setup source.new ≡ S.setup source.old }
+    ensures sink_setup { K.setup out.new ≡ K.setup out.old }
+{
+    let bytes = read_all(alloc, source, MAX_INPUT)?;
+    let count = check_text(alloc, bytes.as_slice())?;
+    tell_right(alloc, count, out)
+}
+
+/// Writes a generated board text.
+fn write_generated<K: Sink>(alloc: Global, n: u32, out: &mut K) -> Result<(), Ending>
+    requires { IsSize n }
+    ensures ok { OnOk result (Appends (K.written out.old) (K.written out.new) (generated n)) }
+    ensures err { IfErr result (EndsSending (generated n) (K.written out.old) (K.written out.new) (K.faults out.old) (K.faults out.new)) }
+    ensures setup { K.setup out.new ≡ K.setup out.old }
+{
+    let text = generate(alloc, n)?;
+    write_all(out, text.as_slice())?;
+    Ok(())
+}
+
 /// Does what a request asks for.
 fn fulfil<S: Source, K: Sink>(
     alloc: Global,
@@ -59,8 +100,9 @@ fn fulfil<S: Source, K: Sink>(
     source: &mut S,
     out: &mut K,
 ) -> Result<(), Ending>
+    requires { IsGood request }
     ensures done { OnOk result (HasDone (S.left source.old) (K.written out.old) (K.written out.new) request) }
-    ensures end { OnOk result (IsToldAs (S.left source.new) []) }
+    ensures read { OnOk result (HasRead (S.left source.old) (S.left source.new) request) }
     ensures err { IfErr result (EndsCall request (S.left source.old) (S.faults source.old) (S.faults source.new)
         (K.written out.old) (K.written out.new) (K.faults out.old) (K.faults out.new)) }
     ensures unwritten { IfErr result (λ e. IsBeforeReplies e → out.new ≡ out.old) }
@@ -69,6 +111,8 @@ fn fulfil<S: Source, K: Sink>(
 {
     match request {
         Request::Run { quiet } => run(alloc, quiet, source, out),
+        Request::Check => check(alloc, source, out),
+        Request::Gen(n) => write_generated(alloc, n, out),
     }
 }
 
@@ -81,7 +125,7 @@ fn attempt<S: Source, K: Sink>(
 ) -> Result<(), Ending>
     ensures done { OnOk result (IsRequestThat (map string_bytes words.now)
         (HasDone (S.left source.old) (K.written out.old) (K.written out.new))) }
-    ensures end { OnOk result (IsToldAs (S.left source.new) []) }
+    ensures read { OnOk result (IsRequestThat (map string_bytes words.now) (HasRead (S.left source.old) (S.left source.new))) }
     ensures err { IfErr result (EndsAttempt (map string_bytes words.now) (S.left source.old) (S.faults source.old) (S.faults source.new)
         (K.written out.old) (K.written out.new) (K.faults out.old) (K.faults out.new)) }
     ensures unread { IfErr result (λ e. e ≡ Ending.BadWords → source.new ≡ source.old) }
@@ -108,11 +152,13 @@ pub fn contour<S: Source, K: Sink, E: Sink>(
     out: &mut K,
     err: &mut E,
 ) -> Status
-    // What the words ask for was done: of `run`, all was read, a board text, to the end of the source,
-    // and the replies to its commands were written and nothing else.
+    // What the words ask for was done. Of `run`: all was read, a board text, to the end of the source, and
+    // the replies to its commands were written and nothing else. Of `check`: all was read, and the
+    // replies after the board text are right. Of `gen`: nothing was read, and the text was written.
     ensures done { result ≡ Status.Done → IsRequestThat (map string_bytes words.now)
         (HasDone (S.left source.old) (K.written out.old) (K.written out.new)) }
-    ensures end { result ≡ Status.Done → IsToldAs (S.left source.new) [] }
+    ensures read { result ≡ Status.Done → IsRequestThat (map string_bytes words.now)
+        (HasRead (S.left source.old) (S.left source.new)) }
 
     // The words are no request, and nothing was read or written.
     ensures bad_words { (result ≡ Status.BadWords) ↔ IsNoRequest (map string_bytes words.now) }
@@ -120,9 +166,9 @@ pub fn contour<S: Source, K: Sink, E: Sink>(
 
     // The input is too long or no board text. Each fault is one of the stream that is named.
     ensures bad_input { result ≡ Status.BadInput → IsRequestThat (map string_bytes words.now) (Refuses (S.left source.old)) }
-    ensures read_fault { result ≡ Status.ReadFault → Rose (S.faults source.old) (S.faults source.new) }
+    ensures read_fault { result ≡ Status.ReadFault → IsRequestThat (map string_bytes words.now) ReadsInput × Rose (S.faults source.old) (S.faults source.new) }
     ensures write_fault { result ≡ Status.WriteFault → Rose (K.faults out.old) (K.faults out.new) }
-    ensures never_wrong { result ≡ Status.Wrong → ⊥ }
+    ensures wrong { result ≡ Status.Wrong → IsRequestThat (map string_bytes words.now) (HasFoundWrong (S.left source.old)) }
 
     // What was written when the call ended early: nothing, or whole replies to the first commands,
     // and at a fault of the output then a part of the next.
@@ -140,7 +186,7 @@ pub fn contour<S: Source, K: Sink, E: Sink>(
     ensures complete { IsRequestThat (map string_bytes words.now) (MustAccept (S.left source.old))
         → (Rose (S.faults source.old) (S.faults source.new) → ⊥)
         → (Rose (K.faults out.old) (K.faults out.new) → ⊥)
-        → (result ≡ Status.Done) ⊎ (result ≡ Status.NoMemory) }
+        → (result ≡ Status.Done) ⊎ ((result ≡ Status.Wrong) ⊎ (result ≡ Status.NoMemory)) }
 
     // What no call changes of the two streams.
     ensures source_setup { S.setup source.new ≡ S.setup source.old }

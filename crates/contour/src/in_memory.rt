@@ -23,7 +23,7 @@ pub fn contour_in_memory<E: Sink>(
         → (result ≡ Status.BadInput) ⊎ (result ≡ Status.NoMemory) }
     ensures complete { IsRequestThat (map string_bytes words.now) (MustAccept (Some (drop source.old.place source.old.bytes)))
         → length out.new.held.items + out.new.most ≤ out.new.room
-        → (result ≡ Status.Done) ⊎ (result ≡ Status.NoMemory) }
+        → (result ≡ Status.Done) ⊎ ((result ≡ Status.Wrong) ⊎ (result ≡ Status.NoMemory)) }
 {
     contour(alloc, words, source, out, err)
 }

@@ -4,6 +4,9 @@
 mod answers;
 mod calls;
 #[cfg(test)]
+mod check_tests;
+mod checks;
+#[cfg(test)]
 mod connector;
 mod endings;
 mod in_memory;

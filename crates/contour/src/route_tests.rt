@@ -12,7 +12,8 @@ use std::test::Fail;
 
 /// The cases, one a line: the lines of the small board for which a text stands, from the first to the
 /// last; the text; and what the lines of the output have, in this order. A semicolon ends a line.
-const FOUND: &str = "10 10|route a;|route a made 1 of 1;conn 1 40 ;cert 40 ;src 0 top 2 7 8 13 4 9 6 11 0
+const FOUND: &str =
+    "10 10|route a;|route a made 1 of 1;conn 1 40 ;cert 40 ;src 0 top 2 7 8 13 4 9 6 11 0
 10 10|route a;route a;rip a;rip a;show a;all;rip a;|route a made 1 of 1;conn 1 40 ;route a made 0 of 0;rip a removed 1;rip a removed 0;show a 0 of 1;all 1;route a made 1 of 1;conn 1 40 ;rip a removed 1
 10 10|all;|all 1;route a made 1 of 1;conn 1 40 ;cert 40 
 10 10|route a;show a;|conn 1 40 ;cert 40 ;show a 1 of 1;conn 1 40 
@@ -29,7 +30,8 @@ const FOUND: &str = "10 10|route a;|route a made 1 of 1;conn 1 40 ;cert 40 ;src 
 1 10|board 1 big 1048576 1048576;layer top;class sig;rule top sig 65535 65535;net a sig;pin a 65535 65535 65535 65535 top top;pin a 983041 983041 983041 983041 top top;end;route a;|conn 1 1835012 ;cert 1835012 ";
 
 /// The cases in the same form, whose quiet output has these lines and no others.
-const QUIET: &str = "5 10|block top 18 0 22 17;net a sig;pin a 4 9 6 11 top top;pin a 34 9 36 11 top top;end;route a;|route a made 0 of 1;none 1;
+const QUIET: &str =
+    "5 10|block top 18 0 22 17;net a sig;pin a 4 9 6 11 top top;pin a 34 9 36 11 top top;end;route a;|route a made 0 of 1;none 1;
 5 10|net a sig;pin a 4 10 4 10 top top;pin a 34 10 34 10 top top;pin a 20 16 20 16 top top;end;route a;|route a made 2 of 2;conn 1 30 1;at 4 10 top;to 34 10 top;conn 2 6 1;at 20 10 top;to 20 16 top;
 5 10|net a sig;net b sig;pin a 5 8 5 8 top top;pin a 30 8 30 8 top top;pin b 5 12 5 12 top top;pin b 30 12 30 12 top top;end;route a;route b;rip a;strips top sig;|route a made 1 of 1;conn 1 25 1;at 5 8 top;to 30 8 top;route b made 1 of 1;conn 1 25 1;at 5 12 top;to 30 12 top;rip a removed 1;strips top sig 19;many 0 0 40 0;many 0 1 0 19;free 1 1 39 5;many 40 1 40 19;free 1 6 2 8;one a 3 6 7 8;free 8 6 27 8;one a 28 6 32 8;free 33 6 39 8;free 1 9 1 15;one b 2 9 2 10;many 3 9 7 10;one b 8 9 27 10;many 28 9 32 10;one b 33 9 33 10;free 34 9 39 15;one b 2 11 33 15;free 1 16 39 19;many 0 20 40 20;
 1 10|board 1 big 1048576 1048576;layer top;class sig;rule top sig 65535 65535;block top 0 500000 1048576 500000;net a sig;pin a 65535 65535 65535 65535 top top;pin a 983041 983041 983041 983041 top top;end;route a;|route a made 0 of 1;none 1;";
@@ -93,7 +95,8 @@ fn a_connector_is_routed(rt: HostRuntime) -> Result<(), Fail> {
     let mut text = Vec::new(rt.alloc());
     add(&mut text, CONNECTOR, b'\n', b"\r\n")?;
     let out = written(&rt, rt.alloc(), true, &text)?;
-    let wanted = "route D4 made 1 of 1;conn 1 25700 ;all 12;route GND made 1 of 1;conn 1 19700 ;route D0 made 1 of 1;conn 1 19700 ;route D3 made 1 of 1;conn 1 19700 ;route D4 made 0 of 0;route D5 made 1 of 1;conn 1 19700 ;route D9 made 1 of 1;conn 1 19700 ;route VCC made 1 of 1;conn 1 19700 ;rules 0";
+    let wanted =
+        "route D4 made 1 of 1;conn 1 25700 ;all 12;route GND made 1 of 1;conn 1 19700 ;route D0 made 1 of 1;conn 1 19700 ;route D3 made 1 of 1;conn 1 19700 ;route D4 made 0 of 0;route D5 made 1 of 1;conn 1 19700 ;route D9 made 1 of 1;conn 1 19700 ;route VCC made 1 of 1;conn 1 19700 ;rules 0";
     has_in_order(&rt, from_utf8(&out)?, wanted);
     Ok(())
 }
