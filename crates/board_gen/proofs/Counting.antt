@@ -1,16 +1,17 @@
 -- Lists that are made from the numbers of a range.
-use Rattle.std.proofs.Common.{◌≡◌, ℕ, ◌+◌, ◌-◌, ◌<◌, ◌≤◌, suc, zero, List, [], ◌∷◌, ◌++◌, All, length, get_or, map, refl, sym, ap, ◌∙◌, arith, subst, append_assoc, length-append}
+use Rattle.std.proofs.Common.{◌≡◌, ℕ, ◌+◌, ◌-◌, ◌<◌, ◌≤◌, suc, zero, List, [], ◌∷◌, ◌++◌, All, length, map, refl, sym, ap, ◌∙◌, arith, subst, length-append}
 use Rattle.std.specs.List.{range_with_len, flat_map}
 use Rattle.std.proofs.lemmas.List.Elements.{All-nil, All-append}
+use Rattle.std.proofs.lemmas.List.Concat.{flat_map_single}
 use Rattle.std.proofs.lemmas.List.FromFn.{get_or-map-range_with_len, length-map-range_with_len}
-
-range-next : (i n : ℕ) → i < n → range_with_len i (n - i) ≡ i ∷ range_with_len (i + 1) (n - (i + 1))
-range-next i n h = let e : n - i ≡ suc (n - (i + 1)) = omega arith in rw e refl
+use Rattle.board_reader.proofs.Ranges.{flat_map-next}
 
 -- one item more of those that are left
 pub map-next : {T : Type 0} (f : ℕ → T) (i n : ℕ) (front : List T) → i < n
     → (front ++ f i ∷ []) ++ map f (range_with_len (i + 1) (n - (i + 1))) ≡ front ++ map f (range_with_len i (n - i))
-map-next f i n front h = rw (range-next i n h, append_assoc) refl
+map-next f i n front h =
+    ap (λ l. (front ++ f i ∷ []) ++ l) (sym (flat_map_single f (range_with_len (i + 1) (n - (i + 1)))))
+    ∙ (flat_map-next (λ k. f k ∷ []) i n front h ∙ ap (λ l. front ++ l) (flat_map_single f (range_with_len i (n - i))))
 
 -- what holds at each number of the range holds of each item
 pub map-all : {T : Type 0} (P : T → Type 0) (f : ℕ → T) (a n : ℕ) → ((k : ℕ) → a ≤ k → k < a + n → P (f k)) → All P (map f (range_with_len a n))

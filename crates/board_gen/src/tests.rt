@@ -1,5 +1,5 @@
 use crate::generate;
-use std::alloc::Global;
+use std::test;
 
 /// The smallest generated board, byte for byte.
 const ONE_NET: &str = "board 1 gen1 20000 300
@@ -20,7 +20,8 @@ rules
 ";
 
 #[test]
-fn one_net_is_written_byte_for_byte() {
-    let text = generate(Global, 1).unwrap();
-    assert_eq!(text.as_slice(), ONE_NET.as_bytes());
+fn one_net_is_written_byte_for_byte(rt: HostRuntime) -> Result<(), test::Fail> {
+    let text = generate(rt.alloc(), 1)?;
+    assert!(rt; text.as_slice() == ONE_NET.as_bytes());
+    Ok(())
 }

@@ -3,6 +3,7 @@ use Rattle.std.proofs.Common.{◌≡◌, ℕ, ◌+◌, ◌<◌, suc, zero, Bool,
 use Rattle.std.specs.Prelude.{find, codes}
 use Rattle.std.specs.List.{flat_map, range_with_len, list_any, AllByRecursion}
 use Rattle.std.proofs.lemmas.Bool.{cond-false}
+use Rattle.std.proofs.lemmas.List.{append-nil}
 use Rattle.board_reader.specs.declared.drafts.Draft.{Draft}
 use Rattle.board_reader.specs.declared.forms.Form.{Form}
 use Rattle.board_reader.specs.declared.forms.Stage.TheVariants.{Commands}
@@ -30,14 +31,10 @@ tells-more d e f t u one more rest n =
     let b = more rest a.0 in
     (b.0, ap (λ x. reading_from d n (lines x)) (append_assoc t u rest) ∙ (a.1 ∙ b.1))
 
-append-none : (t : List ℕ) → t ++ [] ≡ t
-append-none [] = refl
-append-none (b ∷ bs) = ap (λ x. b ∷ x) (append-none bs)
-
 pub tells-all : (d e : Draft) (t : List ℕ) → Tells d t e → e.stage ≡ Commands → reading_from d 1 (lines t) ≡ Ok (told e)
 tells-all d e t h stage =
     let a = h [] 1 in
-    sym (ap (λ x. reading_from d 1 (lines x)) (append-none t)) ∙ (a.1 ∙ ended e a.0 stage)
+    sym (ap (λ x. reading_from d 1 (lines x)) (append-nil t)) ∙ (a.1 ∙ ended e a.0 stage)
 
 -- an item after the other
 pub tells-each : {X : Type 0} (xs : List X) (text : X → List ℕ) (at : ℕ → Draft)

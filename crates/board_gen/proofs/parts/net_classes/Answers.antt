@@ -1,5 +1,5 @@
-use Rattle.std.proofs.Common.{◌+◌, ◌-◌, ◌++◌, ◌∷◌, [], ◌∙◌, ap, map}
-use Rattle.std.specs.List.{range_with_len, flat_map}
+use Rattle.std.proofs.Common.{◌+◌, ◌-◌, ◌++◌, ◌∙◌, ap, map}
+use Rattle.std.specs.List.{range_with_len}
 use Rattle.board_text.specs.Spelled.{class_at}
 use Rattle.board_gen.proofs.Counting.{map-next}
 use Rattle.board_gen.proofs.parts.net_classes.Goals as goal

@@ -1,5 +1,5 @@
 use Rattle.std.proofs.Common.{◌+◌, ◌-◌, ◌++◌, ◌∷◌, [], ◌∙◌, ap, map}
-use Rattle.std.specs.List.{range_with_len, flat_map}
+use Rattle.std.specs.List.{range_with_len}
 use Rattle.board_gen.specs.Generated.{net_name_of}
 use Rattle.board_gen.proofs.Counting.{map-next}
 use Rattle.board_gen.proofs.parts.net_names.Goals as goal

@@ -1,4 +1,4 @@
-use Rattle.std.proofs.Common.{◌≡◌, ◌+◌, ◌-◌, ◌++◌, map}
+use Rattle.std.proofs.Common.{◌≡◌, ◌-◌, ◌++◌}
 use Rattle.std.specs.List.{range_with_len, flat_map}
 use Rattle.board_gen.specs.Generated.{pins_of}
 use Rattle.board_gen.proofs.parts.pins.Given as goal
