@@ -359,3 +359,36 @@ module _ (b : BoardParts) (kept : IsBoard b) where
         ap length ((reply_as b).text w.inner w.good) ∙ length-append (head_text b w.inner.0) (reply_rest_text b w.inner.1) in
       let first : length (head_text b w.inner.0) ≡ length l.0 + 1 = ap length l.1.text ∙ length-append l.0 (10 ∷ []) in
       omega arith
+
+  pub route_fail : (h : Head) (r : RouteHead) → h ≡ head.Route r → IsHead b h → (bytes : List ℕ) (old mid new : Place) (e : ReadReplies)
+      → Tells (routed_rest b r) bytes old mid (Err e) → Tells (reply_rest b h) bytes old new (Err e)
+  route_fail h r is known bytes old mid new e f =
+      let P : Head → Type 0 = λ (z : Head). IsHead b z → Tells (reply_rest b z) bytes old new (Err e) in
+      subst P (sym is) (λ g. fails_as (reply_rest b (head.Route r)) (routed_rest b r) (route_rest_as b r g) bytes old mid new e f) known
+
+  pub nets_fail : (h : Head) (n : ℕ) → h ≡ head.All n → IsHead b h → (bytes : List ℕ) (old mid new : Place) (e : ReadReplies)
+      → Tells (counted n (routed_block b)) bytes old mid (Err e) → Tells (reply_rest b h) bytes old new (Err e)
+  nets_fail h n is known bytes old mid new e f =
+      let P : Head → Type 0 = λ (z : Head). IsHead b z → Tells (reply_rest b z) bytes old new (Err e) in
+      subst P (sym is) (λ g. fails_as (reply_rest b (head.All n)) (counted n (routed_block b)) (all_rest_as b n g) bytes old mid new e f) known
+
+  pub items_fail : (h : Head) (n : NetId) (d k : ℕ) → h ≡ head.Show n d k → IsHead b h → (bytes : List ℕ) (old mid new : Place) (e : ReadReplies)
+      → Tells (counted k (item_block b)) bytes old mid (Err e) → Tells (reply_rest b h) bytes old new (Err e)
+  items_fail h n d k is known bytes old mid new e f =
+      let P : Head → Type 0 = λ (z : Head). IsHead b z → Tells (reply_rest b z) bytes old new (Err e) in
+      subst P (sym is) (λ g. fails_as (reply_rest b (head.Show n d k)) (counted k (item_block b)) (show_rest_as b n d k g) bytes old mid new e f) known
+
+  pub found_fail : (h : Head) (k : ℕ) → h ≡ head.Rules k → IsHead b h → (bytes : List ℕ) (old mid new : Place) (e : ReadReplies)
+      → Tells (counted k (violation_line b)) bytes old mid (Err e) → Tells (reply_rest b h) bytes old new (Err e)
+  found_fail h k is known bytes old mid new e f =
+      let P : Head → Type 0 = λ (z : Head). IsHead b z → Tells (reply_rest b z) bytes old new (Err e) in
+      subst P (sym is) (λ g. fails_as (reply_rest b (head.Rules k)) (counted k (violation_line b)) (rules_rest_as b k g) bytes old mid new e f) known
+
+  pub strips_fail : (h : Head) (l : LayerId) (c : ClassId) (k : ℕ) → h ≡ head.Strips l c k → IsHead b h → (bytes : List ℕ) (old mid new : Place) (e : ReadReplies)
+      → Tells (counted k (strip_line b)) bytes old mid (Err e) → Tells (reply_rest b h) bytes old new (Err e)
+  strips_fail h l c k is known bytes old mid new e f =
+      let P : Head → Type 0 = λ (z : Head). IsHead b z → Tells (reply_rest b z) bytes old new (Err e) in
+      subst P (sym is) (λ g. fails_as (reply_rest b (head.Strips l c k)) (counted k (strip_line b)) (strips_rest_as b l c k g) bytes old mid new e f) known
+
+  pub nets_there : (h : Head) (n : ℕ) → h ≡ head.All n → IsHead b h → 0 < n → HasGood (routed_block b)
+  nets_there h n is known more = routed_some ((subst (IsHead b) is known).1 more)
