@@ -1,21 +1,19 @@
 -- What the whole text spells, and which line of it is refused.
-use Rattle.std.proofs.Common.{◌≡◌, ℕ, ◌+◌, ◌-◌, ◌<◌, ◌≤◌, List, [], ◌∷◌, ◌++◌, length, drop, All, Err, refl, sym, ap, ◌∙◌, subst, arith, length-append, length-drop, false, ◌⊎◌, inl, inr}
-use Rattle.std.specs.List.{flat_map, AllByRecursion as ByRecursion}
+use Rattle.std.proofs.Common.{◌≡◌, ℕ, ◌+◌, ◌-◌, ◌<◌, ◌≤◌, List, [], ◌∷◌, ◌++◌, length, drop, All, Err, refl, sym, ap, ◌∙◌, subst, arith, length-append, length-drop, false, inl, inr}
+use Rattle.std.specs.List.{flat_map}
 use Rattle.std.proofs.lemmas.List.{append-nil}
 use Rattle.std.proofs.lemmas.List.Elements.{All-from_recursion, recursion_from_All}
 use Rattle.board_model.specs.declared.parts.BoardParts.{BoardParts}
 use Rattle.board_model.specs.Rules.{IsBoard}
 use Rattle.route_law.specs.declared.replies.Reply.{Reply}
-use Rattle.route_law.specs.Regular.{IsRegular}
-use Rattle.reply_text.specs.Texts.{reply_text, replies_text}
+use Rattle.reply_text.specs.Texts.{reply_text}
 use Rattle.reply_reader.specs.declared.places.Place.{Place}
 use Rattle.reply_reader.specs.declared.readings.ReadReplies.{ReadReplies}
 use Rattle.reply_reader.specs.declared.readings.ReadReplies.TheVariants.{Refused, NoMemory}
-use Rattle.reply_reader.specs.InRange.{IsInRange}
-use Rattle.reply_reader.specs.Places.{Begins, lines_text, IsWrongLine, StopsAt, IsOneLine}
-use Rattle.reply_reader.specs.Parts.{Part, IsTextOf, IsOne, counted, IsPassed, IsRefusedIn, IsRead, Tells}
+use Rattle.reply_reader.specs.Places.{Begins, lines_text, StopsAt}
+use Rattle.reply_reader.specs.Parts.{counted, IsPassed, IsRead, Tells}
 use Rattle.reply_reader.specs.Blocks.{reply_block}
-use Rattle.reply_reader.specs.Readings.{IsReadingOf, IsRepliesText, IsRefusedLine, TellsRefusal}
+use Rattle.reply_reader.specs.Readings.{IsReadingOf, IsRepliesText, TellsRefusal}
 use Rattle.reply_reader.proofs.Composing.{IsAllOf, refused_last, one_list}
 use Rattle.reply_reader.proofs.Exits.{reply_one, reply_long}
 
@@ -57,7 +55,7 @@ stops b bytes n s = record {
       next = w.next;
       one = w.one;
       wrong = λ (g : Begins (IsRepliesText b) (lines_text s.lines ++ w.line ++ 10 ∷ [])).
-        w.wrong (record { rest = g.rest; text = all_of b (lines_text s.lines ++ w.line ++ 10 ∷ [] ++ g.rest) g.text });
+          w.wrong (record { rest = g.rest; text = all_of b (lines_text s.lines ++ w.line ++ 10 ∷ [] ++ g.rest) g.text });
     })
     | inr m ↦ inr m
   ];
@@ -67,8 +65,8 @@ pub refused_whole : (b : BoardParts) → IsBoard b → (bytes : List ℕ) (old m
     → mid.at < length bytes → IsRead (counted (length rs) (reply_block b)) bytes old mid rs → Tells (reply_block b) bytes mid new (Err e) → TellsRefusal b bytes e
 refused_whole b kept bytes old mid new rs (Refused n) at line more r f =
     let start : IsPassed bytes 1 (flat_map (reply_block b).text rs) (drop mid.at bytes) mid.line =
-      subst (λ (l : ℕ). IsPassed bytes l (flat_map (reply_block b).text rs) (drop mid.at bytes) mid.line) line
-      (subst (λ (k : ℕ). IsPassed (drop k bytes) old.line (flat_map (reply_block b).text rs) (drop mid.at bytes) mid.line) at r.passed) in
+    subst (λ (l : ℕ). IsPassed bytes l (flat_map (reply_block b).text rs) (drop mid.at bytes) mid.line) line
+    (subst (λ (k : ℕ). IsPassed (drop k bytes) old.line (flat_map (reply_block b).text rs) (drop mid.at bytes) mid.line) at r.passed) in
     let some : 0 < length (drop mid.at bytes) = omega (arith, length-drop mid.at bytes) in
     let last = refused_last (reply_block b) (reply_one b kept) rs (recursion_from_All (reply_block b).IsGood rs r.good.1) bytes (drop mid.at bytes) mid.line n some start f in
     record { none = λ t. last.0 (all_of b bytes t); place = stops b bytes n last.1 }
@@ -90,7 +88,7 @@ pub goes_on : (b : BoardParts) → IsBoard b → (bytes : List ℕ) (old new : P
 goes_on b kept bytes old new r more read =
     let some = reply_long b kept r read.good in
     let cut : length bytes - old.at ≡ length (reply_text b false r) + (length bytes - new.at) =
-      sym (length-drop old.at bytes) ∙ ap length read.passed.cut ∙ length-append (reply_text b false r) (drop new.at bytes) ∙ ap (λ (k : ℕ). length (reply_text b false r) + k) (length-drop new.at bytes) in
+    sym (length-drop old.at bytes) ∙ ap length read.passed.cut ∙ length-append (reply_text b false r) (drop new.at bytes) ∙ ap (λ (k : ℕ). length (reply_text b false r) + k) (length-drop new.at bytes) in
     omega arith
 
 pub one_reading : (b : BoardParts) → IsBoard b → (bytes : List ℕ) (rs ss : List Reply) → IsReadingOf b bytes rs → IsReadingOf b bytes ss → rs ≡ ss

@@ -10,5 +10,4 @@ pub fn texts_spell_one_list()
     ensures one { (b : BoardParts) (bytes : List ℕ) (rs ss : List Reply) → IsBoard b
         → IsReadingOf b bytes rs → IsReadingOf b bytes ss → rs ≡ ss }
     ensures either { (b : BoardParts) (bytes : List ℕ) (n : ℕ) → IsRefusedLine b bytes n → IsRepliesText b bytes → ⊥ }
-{
-}
+{}

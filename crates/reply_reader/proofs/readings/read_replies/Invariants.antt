@@ -1,4 +1,4 @@
-use Rattle.std.proofs.Common.{◌≡◌, ◌-◌, length}
+use Rattle.std.proofs.Common.{◌-◌, length}
 use Rattle.reply_reader.specs.Blocks.{reply_block}
 use Rattle.reply_reader.specs.Parts.{counted, IsRead}
 use Rattle.reply_reader.proofs.readings.read_replies.Given as goal
