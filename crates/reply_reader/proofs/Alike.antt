@@ -1,6 +1,5 @@
 -- What stands in the words of a line is one value at most.
-use Rattle.std.proofs.Common.{◌≡◌, ℕ, ℤ, ◌+◌, ◌<◌, ◌≤◌, ◌^◌, List, [], ◌∷◌, ◌++◌, length, get_or, Option, Some, None, codes, decimal, refl, sym, ap, ◌∙◌, subst, ◌⊎◌, inl, inr, arith}
-use Rattle.std.specs.Fmt.{signed_decimal}
+use Rattle.std.proofs.Common.{◌≡◌, ℕ, ℤ, ◌+◌, ◌<◌, ◌≤◌, ◌^◌, List, [], ◌∷◌, length, get_or, Option, Some, None, codes, decimal, refl, sym, ap, ◌∙◌, subst, ◌⊎◌, inl, inr, arith}
 use Rattle.std.proofs.lemmas.Bool.{cases_lt}
 use Rattle.geo_rect.proofs.Same.{same_interval, same_rect}
 use Rattle.geo_rect.specs.Plane.{columns, rows}
@@ -20,24 +19,22 @@ use Rattle.board_model.specs.declared.parts.BoardParts.{BoardParts}
 use Rattle.board_model.specs.declared.shapes.Owned.{Owned}
 use Rattle.board_model.specs.declared.shapes.Violation.{Violation}
 use Rattle.board_model.specs.declared.shapes.Violation.TheVariants.{Close, Outline}
-use Rattle.board_model.specs.Rules.{IsBoard, IsName, AreNames}
+use Rattle.board_model.specs.Rules.{IsBoard, AreNames}
 use Rattle.plane_core.specs.declared.strips.Strip.{Strip}
 use Rattle.route_law.specs.declared.certs.Entry.{Entry}
 use Rattle.route_law.specs.declared.certs.Origin.{Origin}
 use Rattle.route_law.specs.declared.certs.Origin.TheVariants as origin
-use Rattle.route_law.specs.Regular.{IsLayerOf, IsKindOf, IsNetOf, IsFromZero, IsRegularNode, IsRegularLeg, IsRegularEntry, IsRegularOrigin, IsRegularViolation, IsRegularOwned, IsRegularStrip, IsRegularLabel}
-use Rattle.reply_text.specs.Texts.{layer_name, class_name, kind_name, net_name, bound_text}
+use Rattle.route_law.specs.Regular.{IsLayerOf, IsKindOf, IsNetOf}
+use Rattle.reply_text.specs.Texts.{layer_name, class_name, kind_name, net_name}
 use Rattle.reply_reader.specs.declared.heads.CertHead.{CertHead}
 use Rattle.reply_reader.specs.declared.heads.ConnHead.{ConnHead}
 use Rattle.reply_reader.specs.declared.heads.Head.{Head}
 use Rattle.reply_reader.specs.declared.heads.Head.TheVariants as head
 use Rattle.reply_reader.specs.declared.heads.NoneHead.{NoneHead}
 use Rattle.reply_reader.specs.declared.heads.RouteHead.{RouteHead}
-use Rattle.reply_reader.specs.InRange.{IsCoordinate, IsCount, IsCost, IsAreaInRange, IsNodeInRange, IsLegInRange, IsOriginInRange, IsEntryInRange, IsBoundInRange, IsOwnedInRange, IsViolationInRange, IsStripInRange}
-use Rattle.reply_reader.specs.Fields.{IsForm, IsClassOf, IsCoordinateAt, IsAreaAt, IsNodeAt}
-use Rattle.reply_reader.specs.Forms.{word, IsLineWord, spaced, HasGood, IsLineForm}
-use Rattle.reply_reader.specs.Parts.{Part}
-use Rattle.reply_reader.specs.Said.{conn_head, conn_head_words, IsConnHeadAt, start, node_words, start_words, IsStartAt, leg_line, leg_words, IsWireAt, IsViaAt, IsLegAt, cert_head, cert_head_words, IsBoundAt, IsCertHeadAt, entry_line, area_words, entry_rest_words, origin_words, entry_words, origin_place, IsViaOriginAt, IsOriginOfAt, IsOriginAt, IsEntryRestAt, IsEntryAt, none_head, none_head_words, IsNoneHeadAt, IsRouteHead, route_head, route_head_words, IsNetAt, IsRouteHeadAt, IsHead, head_text, head_line, head_words, IsAllAt, IsRipAt, IsShowAt, IsRulesAt, IsStripsAt, IsHeadAt, violation_line, owner_words, owned_words, violation_words, owner_place, IsOwnerAt, IsOwnedAt, after_owned, IsCloseAt, IsOutlineAt, IsViolationAt, strip_line, label_words, strip_words, label_place, IsOneAt, IsLabelAt, IsStripAt}
+use Rattle.reply_reader.specs.InRange.{IsCount, IsCost}
+use Rattle.reply_reader.specs.Fields.{IsClassOf, IsAreaAt, IsNodeAt}
+use Rattle.reply_reader.specs.Said.{IsConnHeadAt, IsStartAt, IsLegAt, IsBoundAt, IsCertHeadAt, origin_place, IsOriginAt, IsEntryRestAt, IsEntryAt, IsNoneHeadAt, IsNetAt, IsRouteHeadAt, IsHeadAt, owner_place, IsOwnerAt, IsOwnedAt, after_owned, IsViolationAt, label_place, IsLabelAt, IsStripAt}
 
 -- names at two places that are alike are at one
 pub same_place : (most : ℕ) (names : List (List ℕ)) → AreNames most names → (i j : ℕ) → i < length names → j < length names
@@ -231,7 +228,7 @@ same_head b kept ws (head.Rip m j) (head.Strips p q k) hg hh = let w : codes "ri
 same_head b kept ws (head.Show m d j) (head.Route h) hg hh = absurd (omega (arith, hg.form.long, hh.form.long))
 same_head b kept ws (head.Show m d j) (head.All n) hg hh = absurd (omega (arith, hg.form.long, hh.form.long))
 same_head b kept ws (head.Show m d j) (head.Rip n k) hg hh = absurd (omega (arith, hg.form.long, hh.form.long))
-same_head b kept ws (head.Show m d j) (head.Show n e k) hg hh = 
+same_head b kept ws (head.Show m d j) (head.Show n e k) hg hh =
     ap (λ (i : NetId). head.Show i d j) (same_net_at b kept ws 1 m n hg.net hh.net)
     ∙ ap (λ (i : ℕ). head.Show n i j) (same_count _ d e hg.all hh.all) ∙ ap (head.Show n e) (same_count _ j k hg.number hh.number)
 same_head b kept ws (head.Show m d j) (head.Rules k) hg hh = absurd (omega (arith, hg.form.long, hh.form.long))
@@ -247,7 +244,7 @@ same_head b kept ws (head.Strips l c j) (head.All n) hg hh = absurd (omega (arit
 same_head b kept ws (head.Strips l c j) (head.Rip n k) hg hh = let w : codes "strips" ≡ codes "rip" = sym hg.form.keyword ∙ hh.form.keyword in absurd cc
 same_head b kept ws (head.Strips l c j) (head.Show n e k) hg hh = absurd (omega (arith, hg.form.long, hh.form.long))
 same_head b kept ws (head.Strips l c j) (head.Rules k) hg hh = absurd (omega (arith, hg.form.long, hh.form.long))
-same_head b kept ws (head.Strips l c j) (head.Strips p q k) hg hh = 
+same_head b kept ws (head.Strips l c j) (head.Strips p q k) hg hh =
     ap (λ (i : LayerId). head.Strips i c j) (same_layer b kept l p hg.known hh.known (hg.layer ∙ sym hh.layer))
     ∙ ap (λ (i : ClassId). head.Strips p i j) (same_class b kept c q hg.known_class hh.known_class (hg.class ∙ sym hh.class))
     ∙ ap (head.Strips p q) (same_count _ j k hg.number hh.number)

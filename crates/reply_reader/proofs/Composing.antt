@@ -1,10 +1,10 @@
 -- How the answers for parts make those for what the parts make.
-use Rattle.std.proofs.Common.{get_or, take, drop, drop-cons, ◌≡◌, ℕ, zero, suc, ◌+◌, ◌-◌, ◌<◌, ◌≤◌, List, [], ◌∷◌, ◌++◌, length, All, Err, ◌⊎◌, inl, inr, refl, sym, ap, ◌∙◌, subst, arith, append_assoc, length-append, replicate}
+use Rattle.std.proofs.Common.{get_or, take, drop, drop-cons, ◌≡◌, ℕ, suc, ◌+◌, ◌-◌, ◌<◌, ◌≤◌, List, [], ◌∷◌, ◌++◌, length, All, Err, ◌⊎◌, inl, inr, refl, sym, ap, ◌∙◌, subst, arith, append_assoc, length-append, replicate}
 use Rattle.std.specs.List.{flat_map, AllByRecursion as ByRecursion}
 use Rattle.std.proofs.lemmas.List.{append_cancel_left, append-nil, take-append-drop, drop-drop, length-replicate}
 use Rattle.std.proofs.lemmas.Bool.{cases_lt}
 use Rattle.std.proofs.lemmas.List.Elements.{All-append, All-from_recursion, recursion_from_All, All-replicate, All-nil, All-cons}
-use Rattle.std.proofs.lemmas.Grind.{flat_map-append, common_steps}
+use Rattle.std.proofs.lemmas.Grind.{flat_map-append}
 use Rattle.reply_reader.specs.declared.places.Place.{Place}
 use Rattle.reply_reader.specs.declared.readings.ReadReplies.{ReadReplies}
 use Rattle.reply_reader.specs.declared.readings.ReadReplies.TheVariants.{Refused, NoMemory}
@@ -65,8 +65,10 @@ refused_front A L joins splits bytes line n r = record {
     no_text text more l e =
         let c : (s : List ℕ) × (t : List ℕ) × A s × (text ≡ s ++ t) = splits text l in
         r.none c.0 (c.1 ++ more) c.2 (e ∙ ap (λ (x : List ℕ). x ++ more) c.3 ∙ append_assoc c.0 c.1 more)
+
     before : List ℕ
     before = lines_text r.stop.lines
+
     wrong_line : IsWrongLine A (lines_text r.stop.lines) r.stop.after → IsWrongLine L (lines_text r.stop.lines) r.stop.after
     wrong_line w = record {
       line = w.line;
@@ -74,17 +76,17 @@ refused_front A L joins splits bytes line n r = record {
       next = w.next;
       one = w.one;
       wrong = λ (g : Begins L (lines_text r.stop.lines ++ w.line ++ 10 ∷ [])).
-        let front : List ℕ = lines_text r.stop.lines ++ w.line ++ 10 ∷ [] in
-        let c : (s : List ℕ) × (t : List ℕ) × A s × (front ++ g.rest ≡ s ++ t) = splits (front ++ g.rest) g.text in
-        elim (either_begins front g.rest c.0 c.1 c.3) [
-          | inl u ↦
-            r.none c.0 (u.0 ++ w.rest) c.2
-            (r.stop.cut ∙ ap (λ (x : List ℕ). lines_text r.stop.lines ++ x) w.next
-            ∙ sym (append_assoc (lines_text r.stop.lines) w.line (10 ∷ w.rest))
-            ∙ sym (append_assoc (lines_text r.stop.lines ++ w.line) (10 ∷ []) w.rest)
-            ∙ ap (λ (x : List ℕ). x ++ w.rest) u.1 ∙ append_assoc c.0 u.0 w.rest)
-          | inr u ↦ w.wrong (record { rest = u.0; text = subst A u.1 c.2 })
-        ];
+          let front : List ℕ = lines_text r.stop.lines ++ w.line ++ 10 ∷ [] in
+          let c : (s : List ℕ) × (t : List ℕ) × A s × (front ++ g.rest ≡ s ++ t) = splits (front ++ g.rest) g.text in
+          elim (either_begins front g.rest c.0 c.1 c.3) [
+            | inl u ↦
+                r.none c.0 (u.0 ++ w.rest) c.2
+                (r.stop.cut ∙ ap (λ (x : List ℕ). lines_text r.stop.lines ++ x) w.next
+                ∙ sym (append_assoc (lines_text r.stop.lines) w.line (10 ∷ w.rest))
+                ∙ sym (append_assoc (lines_text r.stop.lines ++ w.line) (10 ∷ []) w.rest)
+                ∙ ap (λ (x : List ℕ). x ++ w.rest) u.1 ∙ append_assoc c.0 u.0 w.rest)
+            | inr u ↦ w.wrong (record { rest = u.0; text = subst A u.1 c.2 })
+          ];
     }
 
 -- passing one line
@@ -105,12 +107,12 @@ passed_cut bytes at n number from is lt feed one =
     let places : at + n + 1 ≡ at + (n + 1) = omega arith in
     let next : suc n ≡ n + 1 = omega arith in
     let after : drop (n + 1) from ≡ drop (at + n + 1) bytes =
-        ap (λ (l : List ℕ). drop (n + 1) l) is ∙ later ∙ sym (ap (λ (k : ℕ). drop k bytes) places) in
+    ap (λ (l : List ℕ). drop (n + 1) l) is ∙ later ∙ sym (ap (λ (k : ℕ). drop k bytes) places) in
     let cells : from ≡ take n from ++ 10 ∷ drop (at + n + 1) bytes =
-        sym (take-append-drop n from)
-        ∙ ap (λ (l : List ℕ). take n from ++ l) (drop-cons from n 0 lt ∙ ap (λ (b : ℕ). b ∷ drop (suc n) from) feed)
-        ∙ ap (λ (k : ℕ). take n from ++ 10 ∷ drop k from) next
-        ∙ ap (λ (l : List ℕ). take n from ++ 10 ∷ l) after in
+    sym (take-append-drop n from)
+    ∙ ap (λ (l : List ℕ). take n from ++ l) (drop-cons from n 0 lt ∙ ap (λ (b : ℕ). b ∷ drop (suc n) from) feed)
+    ∙ ap (λ (k : ℕ). take n from ++ 10 ∷ drop k from) next
+    ∙ ap (λ (l : List ℕ). take n from ++ 10 ∷ l) after in
     passed_line (drop at bytes) (take n from) (drop (at + n + 1) bytes) number one (sym is ∙ cells)
 
 -- A refusal in what may follow a text that was passed is one in the whole: each text of the whole that
@@ -138,14 +140,17 @@ refused_behind L M s bytes after line next n joins splits passed r = record {
   where
     both : s ++ lines_text r.stop.lines ≡ lines_text (passed.lines ++ r.stop.lines)
     both = ap (λ (t : List ℕ). t ++ lines_text r.stop.lines) passed.whole ∙ sym (flat_map-append (λ l. l ++ 10 ∷ []) passed.lines r.stop.lines)
+
     joined : Begins M (lines_text r.stop.lines) → Begins L (s ++ lines_text r.stop.lines)
     joined g = record { rest = g.rest; text = subst L (sym (append_assoc s (lines_text r.stop.lines) g.rest)) (joins (lines_text r.stop.lines ++ g.rest) g.text) }
+
     no_text : (text more : List ℕ) → L text → bytes ≡ text ++ more → ⊥
     no_text text more l e =
         let c : (t : List ℕ) × M t × (text ≡ s ++ t) = splits text more after l (sym e ∙ passed.cut) in
         let there : s ++ after ≡ s ++ (c.0 ++ more) =
-          sym passed.cut ∙ e ∙ ap (λ (x : List ℕ). x ++ more) c.2 ∙ append_assoc s c.0 more in
+        sym passed.cut ∙ e ∙ ap (λ (x : List ℕ). x ++ more) c.2 ∙ append_assoc s c.0 more in
         r.none c.0 more c.1 (append_cancel_left s after (c.0 ++ more) there)
+
     wrong_line : IsWrongLine M (lines_text r.stop.lines) r.stop.after → IsWrongLine L (lines_text (passed.lines ++ r.stop.lines)) r.stop.after
     wrong_line w = record {
       line = w.line;
@@ -153,14 +158,14 @@ refused_behind L M s bytes after line next n joins splits passed r = record {
       next = w.next;
       one = w.one;
       wrong = λ (g : Begins L (lines_text (passed.lines ++ r.stop.lines) ++ w.line ++ 10 ∷ [])).
-        let front : List ℕ = lines_text r.stop.lines ++ w.line ++ 10 ∷ [] in
-        let regrouped : lines_text (passed.lines ++ r.stop.lines) ++ w.line ++ 10 ∷ [] ++ g.rest ≡ s ++ (front ++ g.rest) =
+          let front : List ℕ = lines_text r.stop.lines ++ w.line ++ 10 ∷ [] in
+          let regrouped : lines_text (passed.lines ++ r.stop.lines) ++ w.line ++ 10 ∷ [] ++ g.rest ≡ s ++ (front ++ g.rest) =
           ap (λ (x : List ℕ). x ++ w.line ++ 10 ∷ [] ++ g.rest) (sym both)
           ∙ simp append_assoc in
-        let c : (t : List ℕ) × M t × (lines_text (passed.lines ++ r.stop.lines) ++ w.line ++ 10 ∷ [] ++ g.rest ≡ s ++ t) =
+          let c : (t : List ℕ) × M t × (lines_text (passed.lines ++ r.stop.lines) ++ w.line ++ 10 ∷ [] ++ g.rest ≡ s ++ t) =
           splits (lines_text (passed.lines ++ r.stop.lines) ++ w.line ++ 10 ∷ [] ++ g.rest) [] (front ++ g.rest) g.text (append-nil _ ∙ regrouped) in
-        let same : c.0 ≡ front ++ g.rest = append_cancel_left s c.0 (front ++ g.rest) (sym c.2 ∙ regrouped) in
-        w.wrong (record { rest = g.rest; text = subst M same c.1 });
+          let same : c.0 ≡ front ++ g.rest = append_cancel_left s c.0 (front ++ g.rest) (sym c.2 ∙ regrouped) in
+          w.wrong (record { rest = g.rest; text = subst M same c.1 });
     }
 
 module _ {X Y : Type 0} (p : Part X) (q : X → Part Y) where
@@ -189,9 +194,9 @@ module _ {X Y : Type 0} (p : Part X) (q : X → Part Y) where
   pub one_followed : IsOne p → ((x : X) → p.IsGood x → IsOne (q x)) → IsOne (followed_by p q)
   one_followed o os = record {
     same = λ v w s t gv gw e.
-      let first : v.0 ≡ w.0 = o.same v.0 w.0 ((q v.0).text v.1 ++ s) ((q w.0).text w.1 ++ t) gv.0 gw.0
-          (sym (append_assoc (p.text v.0) ((q v.0).text v.1) s) ∙ e ∙ append_assoc (p.text w.0) ((q w.0).text w.1) t) in
-      one_behind o os v.0 w.0 first v.1 w.1 s t gv gw e;
+        let first : v.0 ≡ w.0 = o.same v.0 w.0 ((q v.0).text v.1 ++ s) ((q w.0).text w.1 ++ t) gv.0 gw.0
+        (sym (append_assoc (p.text v.0) ((q v.0).text v.1) s) ∙ e ∙ append_assoc (p.text w.0) ((q w.0).text w.1) t) in
+        one_behind o os v.0 w.0 first v.1 w.1 s t gv gw e;
   }
     where
       one_behind : IsOne p → ((x : X) → p.IsGood x → IsOne (q x)) → (a b : X) → a ≡ b → (c d : Y) (s t : List ℕ)
@@ -200,15 +205,15 @@ module _ {X Y : Type 0} (p : Part X) (q : X → Part Y) where
           → let v : X × Y = (a, c) in let w : X × Y = (b, d) in v ≡ w
       one_behind o os a b ab c d s t =
           let P : X → Type 0 = λ (z : X).
-            p.IsGood a × (q a).IsGood c → p.IsGood z × (q z).IsGood d
-            → (p.text a ++ (q a).text c) ++ s ≡ (p.text z ++ (q z).text d) ++ t
-            → (let v : X × Y = (a, c) in let w : X × Y = (z, d) in v ≡ w) in
+          p.IsGood a × (q a).IsGood c → p.IsGood z × (q z).IsGood d
+          → (p.text a ++ (q a).text c) ++ s ≡ (p.text z ++ (q z).text d) ++ t
+          → (let v : X × Y = (a, c) in let w : X × Y = (z, d) in v ≡ w) in
           subst P ab (λ gv gw e.
-            let tails : (q a).text c ++ s ≡ (q a).text d ++ t =
-              append_cancel_left (p.text a) ((q a).text c ++ s) ((q a).text d ++ t)
-              (sym (append_assoc (p.text a) ((q a).text c) s) ∙ e ∙ append_assoc (p.text a) ((q a).text d) t) in
-            let second : c ≡ d = (os a gv.0).same c d s t gv.1 gw.1 tails in
-            ap (λ (z : Y). let v : X × Y = (a, z) in v) second)
+          let tails : (q a).text c ++ s ≡ (q a).text d ++ t =
+          append_cancel_left (p.text a) ((q a).text c ++ s) ((q a).text d ++ t)
+          (sym (append_assoc (p.text a) ((q a).text c) s) ∙ e ∙ append_assoc (p.text a) ((q a).text d) t) in
+          let second : c ≡ d = (os a gv.0).same c d s t gv.1 gw.1 tails in
+          ap (λ (z : Y). let v : X × Y = (a, z) in v) second)
 
   -- a refusal of the part behind, at the place after the part in front, refuses the two
   pub refused_second : IsOne p → (x : X) → p.IsGood x → (bytes after : List ℕ) (line next n : ℕ)
@@ -223,12 +228,13 @@ module _ {X Y : Type 0} (p : Part X) (q : X → Part Y) where
         good = (good, w.good);
         is = ap (λ (s : List ℕ). p.text x ++ s) w.is;
       }
+
       begins : (w u v : List ℕ) → IsTextOf (followed_by p q) w → w ++ u ≡ p.text x ++ v → (t : List ℕ) × IsTextOf (q x) t × (w ≡ p.text x ++ t)
       begins w u v t e =
           let a : X = t.value.0 in
           let c : Y = t.value.1 in
           let same : a ≡ x = o.same a x ((q a).text c ++ u) v t.good.0 good
-              (sym (append_assoc (p.text a) ((q a).text c) u) ∙ ap (λ (z : List ℕ). z ++ u) t.is ∙ e) in
+          (sym (append_assoc (p.text a) ((q a).text c) u) ∙ ap (λ (z : List ℕ). z ++ u) t.is ∙ e) in
           let P : X → Type 0 = λ (z : X). (t : List ℕ) × IsTextOf (q z) t × (w ≡ p.text z ++ t) in
           let Q : P a = ((q a).text c, record { value = c; good = t.good.1; is = refl }, sym t.is) in
           subst P same Q
@@ -276,9 +282,9 @@ module _ {X Y : Type 0} (p : Part X) (q : Part Y) (w : IsSpelledAs p q) where
   pub one_as : IsOne q → IsOne p
   one_as o = record {
     same = λ x z s t gx gz e.
-      let there : (w.back x gx).inner ≡ (w.back z gz).inner = o.same (w.back x gx).inner (w.back z gz).inner s t (w.back x gx).good (w.back z gz).good
-          (ap (λ (l : List ℕ). l ++ s) (inner_text x gx) ∙ e ∙ ap (λ (l : List ℕ). l ++ t) (sym (inner_text z gz))) in
-      sym (w.back x gx).made ∙ ap w.from there ∙ (w.back z gz).made;
+        let there : (w.back x gx).inner ≡ (w.back z gz).inner = o.same (w.back x gx).inner (w.back z gz).inner s t (w.back x gx).good (w.back z gz).good
+        (ap (λ (l : List ℕ). l ++ s) (inner_text x gx) ∙ e ∙ ap (λ (l : List ℕ). l ++ t) (sym (inner_text z gz))) in
+        sym (w.back x gx).made ∙ ap w.from there ∙ (w.back z gz).made;
   }
 
 module _ {X : Type 0} (p : Part X) (o : IsOne p) where
@@ -289,11 +295,11 @@ module _ {X : Type 0} (p : Part X) (o : IsOne p) where
   front_of_list (x ∷ xs) [] u v gx gy le e = absurd (omega arith)
   front_of_list (x ∷ xs) (y ∷ ys) u v gx gy le e =
       let first : x ≡ y = o.same x y (flat_map p.text xs ++ u) (flat_map p.text ys ++ v) gx.0 gy.0
-          (sym (append_assoc (p.text x) (flat_map p.text xs) u) ∙ e ∙ append_assoc (p.text y) (flat_map p.text ys) v) in
+      (sym (append_assoc (p.text x) (flat_map p.text xs) u) ∙ e ∙ append_assoc (p.text y) (flat_map p.text ys) v) in
       let tails : flat_map p.text xs ++ u ≡ flat_map p.text ys ++ v =
-        append_cancel_left (p.text x) (flat_map p.text xs ++ u) (flat_map p.text ys ++ v)
-        (sym (append_assoc (p.text x) (flat_map p.text xs) u) ∙ e ∙ append_assoc (p.text y) (flat_map p.text ys) v
-        ∙ ap (λ (z : X). p.text z ++ (flat_map p.text ys ++ v)) (sym first)) in
+      append_cancel_left (p.text x) (flat_map p.text xs ++ u) (flat_map p.text ys ++ v)
+      (sym (append_assoc (p.text x) (flat_map p.text xs) u) ∙ e ∙ append_assoc (p.text y) (flat_map p.text ys) v
+      ∙ ap (λ (z : X). p.text z ++ (flat_map p.text ys ++ v)) (sym first)) in
       let rest : (zs : List X) × (ys ≡ xs ++ zs) = front_of_list xs ys u v gx.1 gy.1 (omega arith) tails in
       (rest.0, ap (λ (z : X). z ∷ ys) (sym first) ∙ ap (λ (l : List X). x ∷ l) rest.1)
 
@@ -304,6 +310,7 @@ module _ {X : Type 0} (p : Part X) (o : IsOne p) where
       none_more : (xs ys zs : List X) → ys ≡ xs ++ zs → length xs ≡ length ys → xs ≡ ys
       none_more xs ys [] e l = sym (append-nil xs) ∙ sym e
       none_more xs ys (z ∷ zs) e l = absurd (omega (arith, length-append xs (z ∷ zs), ap length e))
+
       same_list : (xs ys : List X) (u v : List ℕ) → (length xs ≡ n) × All p.IsGood xs → (length ys ≡ n) × All p.IsGood ys
           → flat_map p.text xs ++ u ≡ flat_map p.text ys ++ v → xs ≡ ys
       same_list xs ys u v gx gy e =
@@ -325,16 +332,18 @@ module _ {X : Type 0} (p : Part X) (o : IsOne p) where
         good = (let l = w.good.0 in omega (arith, length-append xs w.value), All-append p.IsGood xs w.value good w.good.1);
         is = flat_map-append p.text xs w.value ∙ ap (λ (s : List ℕ). flat_map p.text xs ++ s) w.is;
       }
+
       behind : (w : List ℕ) (ys zs : List X) → (length ys ≡ n) × All p.IsGood ys → flat_map p.text ys ≡ w → ys ≡ xs ++ zs
           → (t : List ℕ) × IsTextOf (counted (n - length xs) p) t × (w ≡ flat_map p.text xs ++ t)
-      behind w ys zs g is e =
-          (flat_map p.text zs,
-           record {
-             value = zs;
-             good = (let l = g.0 in omega (arith, length-append xs zs, ap length e), All_behind xs zs (subst (All p.IsGood) e g.1));
-             is = refl;
-           },
-           sym is ∙ ap (flat_map p.text) e ∙ flat_map-append p.text xs zs)
+      behind w ys zs g is e = (
+        flat_map p.text zs,
+        record {
+          value = zs;
+          good = (let l = g.0 in omega (arith, length-append xs zs, ap length e), All_behind xs zs (subst (All p.IsGood) e g.1));
+          is = refl;
+        },
+        sym is ∙ ap (flat_map p.text) e ∙ flat_map-append p.text xs zs,
+      )
         where
           All_behind : (ks bs : List X) → All p.IsGood (ks ++ bs) → All p.IsGood bs
           All_behind ks bs h = All-from_recursion p.IsGood bs (back ks bs (recursion_from_All p.IsGood (ks ++ bs) h))
@@ -342,14 +351,16 @@ module _ {X : Type 0} (p : Part X) (o : IsOne p) where
               back : (ks bs : List X) → ByRecursion p.IsGood (ks ++ bs) → ByRecursion p.IsGood bs
               back [] bs h = h
               back (a ∷ ks) bs h = back ks bs h.1
+
       splits : (w u v : List ℕ) → IsTextOf (counted n p) w → w ++ u ≡ flat_map p.text xs ++ v
           → (t : List ℕ) × IsTextOf (counted (n - length xs) p) t × (w ≡ flat_map p.text xs ++ t)
       splits w u v t e =
           let long : length xs ≤ length t.value = let a = t.good.0 in omega arith in
           let f : (zs : List X) × (t.value ≡ xs ++ zs) =
-            front_of_list xs t.value v u (recursion_from_All p.IsGood xs good) (recursion_from_All p.IsGood t.value t.good.1) long
-            (sym e ∙ ap (λ (l : List ℕ). l ++ u) (sym t.is)) in
+          front_of_list xs t.value v u (recursion_from_All p.IsGood xs good) (recursion_from_All p.IsGood t.value t.good.1) long
+          (sym e ∙ ap (λ (l : List ℕ). l ++ u) (sym t.is)) in
           behind w t.value f.0 t.good t.is f.1
+
       fronts : (w : List ℕ) → IsTextOf (counted (n - length xs) p) w → (s : List ℕ) × (t : List ℕ) × IsTextOf p s × (w ≡ s ++ t)
       fronts w t = first t.value t.good t.is
         where
@@ -358,6 +369,7 @@ module _ {X : Type 0} (p : Part X) (o : IsOne p) where
           first [] g is = let l = g.0 in absurd (omega arith)
           first (z ∷ zs) g is =
               (p.text z, flat_map p.text zs, record { value = z; good = (recursion_from_All p.IsGood (z ∷ zs) g.1).0; is = refl }, sym is)
+
       begins : (front : List ℕ) → Begins (IsTextOf p) front → Begins (IsTextOf (counted (n - length xs) p)) front
       begins front g =
           let z : X = g.text.value in
@@ -376,7 +388,7 @@ module _ {X : Type 0} (p : Part X) (o : IsOne p) where
       → IsRead (counted n p) bytes old mid xs → IsRead p bytes mid new x → IsRead (counted (n + 1) p) bytes old new (xs ++ x ∷ [])
   read_next n bytes old mid new xs x r s =
       let more : flat_map p.text xs ++ p.text x ≡ flat_map p.text (xs ++ x ∷ []) =
-        ap (λ (t : List ℕ). flat_map p.text xs ++ t) (sym (append-nil (p.text x))) ∙ sym (flat_map-append p.text xs (x ∷ [])) in
+      ap (λ (t : List ℕ). flat_map p.text xs ++ t) (sym (append-nil (p.text x))) ∙ sym (flat_map-append p.text xs (x ∷ [])) in
       let P : List ℕ → Type 0 = λ (t : List ℕ). IsPassed (drop old.at bytes) old.line t (drop new.at bytes) new.line in
       record {
         good = (let l = r.good.0 in omega (arith, length-append xs (x ∷ [])), All-append p.IsGood xs (x ∷ []) r.good.1 (All-cons p.IsGood x [] s.good (All-nil p.IsGood)));
@@ -431,22 +443,23 @@ module _ {X : Type 0} (p : Part X) (o : IsOne p) where
       by : (length all.values < length xs) ⊎ (length xs ≤ length all.values) → IsSomeOf p v
       by (inl lt) =
           let f : (zs : List X) × (xs ≡ all.values ++ zs) =
-            front_of_list p o all.values xs [] v all.good good (omega arith) (append-nil (flat_map p.text all.values) ∙ all.is) in
+          front_of_list p o all.values xs [] v all.good good (omega arith) (append-nil (flat_map p.text all.values) ∙ all.is) in
           let long : length (flat_map p.text xs) ≡ length (flat_map p.text all.values) + length (flat_map p.text f.0) =
-            ap (λ (l : List X). length (flat_map p.text l)) f.1 ∙ ap length (flat_map-append p.text all.values f.0) ∙ length-append (flat_map p.text all.values) (flat_map p.text f.0) in
+          ap (λ (l : List X). length (flat_map p.text l)) f.1 ∙ ap length (flat_map-append p.text all.values f.0) ∙ length-append (flat_map p.text all.values) (flat_map p.text f.0) in
           let same : length (flat_map p.text all.values) ≡ length (flat_map p.text xs) + length v = ap length all.is ∙ length-append (flat_map p.text xs) v in
           absurd (omega arith)
       by (inr le) =
           let f : (zs : List X) × (all.values ≡ xs ++ zs) =
-            front_of_list p o xs all.values v [] good all.good le (sym all.is ∙ sym (append-nil (flat_map p.text all.values))) in
+          front_of_list p o xs all.values v [] good all.good le (sym all.is ∙ sym (append-nil (flat_map p.text all.values))) in
           let rest : flat_map p.text f.0 ≡ v =
-            append_cancel_left (flat_map p.text xs) (flat_map p.text f.0) v
-            (sym (flat_map-append p.text xs f.0) ∙ ap (λ (l : List X). flat_map p.text l) (sym f.1) ∙ all.is) in
+          append_cancel_left (flat_map p.text xs) (flat_map p.text f.0) v
+          (sym (flat_map-append p.text xs f.0) ∙ ap (λ (l : List X). flat_map p.text l) (sym f.1) ∙ all.is) in
           more f.0 (behind xs f.0 (subst (ByRecursion p.IsGood) f.1 all.good)) rest
         where
           behind : (ks bs : List X) → ByRecursion p.IsGood (ks ++ bs) → ByRecursion p.IsGood bs
           behind [] bs h = h
           behind (a ∷ ks) bs h = behind ks bs h.1
+
           more : (zs : List X) → ByRecursion p.IsGood zs → flat_map p.text zs ≡ v → IsSomeOf p v
           more [] g e = let none : length v ≡ 0 = ap length (sym e) in absurd (omega arith)
           more (z ∷ zs) g e = record { first = z; others = zs; good = g; is = e }
@@ -459,6 +472,7 @@ module _ {X : Type 0} (p : Part X) (o : IsOne p) where
     where
       s : List ℕ
       s = flat_map p.text xs
+
       refused : IsRefusedIn (IsSomeOf p) after next n
       refused = refused_front (IsTextOf p) (IsSomeOf p)
           (λ front g. record {
@@ -467,8 +481,10 @@ module _ {X : Type 0} (p : Part X) (o : IsOne p) where
           })
           (λ w t. (p.text t.first, flat_map p.text t.others, record { value = t.first; good = t.good.0; is = refl }, sym t.is))
           after next n r
+
       none : IsAllOf p bytes → ⊥
       none all = refused.none after [] (go_on xs good after some (subst (IsAllOf p) passed.cut all)) (sym (append-nil after))
+
       joins : (t : List ℕ) → IsSomeOf p t → IsAllOf p (flat_map p.text xs ++ t)
       joins t m = record {
         values = xs ++ (m.first ∷ m.others);
@@ -479,10 +495,13 @@ module _ {X : Type 0} (p : Part X) (o : IsOne p) where
           joined : (ks bs : List X) → ByRecursion p.IsGood ks → ByRecursion p.IsGood bs → ByRecursion p.IsGood (ks ++ bs)
           joined [] bs g h = h
           joined (k ∷ ks) bs g h = (g.0, joined ks bs g.1 h)
+
       both : flat_map p.text xs ++ lines_text refused.stop.lines ≡ lines_text (passed.lines ++ refused.stop.lines)
       both = ap (λ (t : List ℕ). t ++ lines_text refused.stop.lines) passed.whole ∙ sym (flat_map-append (λ l. l ++ 10 ∷ []) passed.lines refused.stop.lines)
+
       joined_begun : Begins (IsSomeOf p) (lines_text refused.stop.lines) → Begins (IsAllOf p) (flat_map p.text xs ++ lines_text refused.stop.lines)
       joined_begun g = record { rest = g.rest; text = subst (IsAllOf p) (sym (append_assoc (flat_map p.text xs) (lines_text refused.stop.lines) g.rest)) (joins (lines_text refused.stop.lines ++ g.rest) g.text) }
+
       wrong_line : IsWrongLine (IsSomeOf p) (lines_text refused.stop.lines) refused.stop.after → IsWrongLine (IsAllOf p) (lines_text (passed.lines ++ refused.stop.lines)) refused.stop.after
       wrong_line w = record {
         line = w.line;
@@ -490,13 +509,14 @@ module _ {X : Type 0} (p : Part X) (o : IsOne p) where
         next = w.next;
         one = w.one;
         wrong = λ (g : Begins (IsAllOf p) (lines_text (passed.lines ++ refused.stop.lines) ++ w.line ++ 10 ∷ [])).
-          let front : List ℕ = lines_text refused.stop.lines ++ w.line ++ 10 ∷ [] in
-          let regrouped : lines_text (passed.lines ++ refused.stop.lines) ++ w.line ++ 10 ∷ [] ++ g.rest ≡ flat_map p.text xs ++ (front ++ g.rest) =
+            let front : List ℕ = lines_text refused.stop.lines ++ w.line ++ 10 ∷ [] in
+            let regrouped : lines_text (passed.lines ++ refused.stop.lines) ++ w.line ++ 10 ∷ [] ++ g.rest ≡ flat_map p.text xs ++ (front ++ g.rest) =
             ap (λ (x : List ℕ). x ++ w.line ++ 10 ∷ [] ++ g.rest) (sym both) ∙ simp append_assoc in
-          let long : 0 < length (front ++ g.rest) =
+            let long : 0 < length (front ++ g.rest) =
             omega (arith, length-append front g.rest, length-append (lines_text refused.stop.lines ++ w.line) (10 ∷ [])) in
-          w.wrong (record { rest = g.rest; text = go_on xs good (front ++ g.rest) long (subst (IsAllOf p) regrouped g.text) });
+            w.wrong (record { rest = g.rest; text = go_on xs good (front ++ g.rest) long (subst (IsAllOf p) regrouped g.text) });
       }
+
       stop : StopsAt (IsAllOf p) bytes n
       stop = record {
         lines = passed.lines ++ refused.stop.lines;
@@ -518,5 +538,5 @@ module _ {X : Type 0} (p : Part X) (o : IsOne p) where
   one_list (x ∷ xs) (y ∷ ys) gx gy some e =
       let first : x ≡ y = o.same x y (flat_map p.text xs) (flat_map p.text ys) gx.0 gy.0 e in
       let tails : flat_map p.text xs ≡ flat_map p.text ys =
-        append_cancel_left (p.text x) (flat_map p.text xs) (flat_map p.text ys) (e ∙ ap (λ (z : X). p.text z ++ flat_map p.text ys) (sym first)) in
+      append_cancel_left (p.text x) (flat_map p.text xs) (flat_map p.text ys) (e ∙ ap (λ (z : X). p.text z ++ flat_map p.text ys) (sym first)) in
       ap (λ (z : X). z ∷ xs) first ∙ ap (λ (l : List X). y ∷ l) (one_list xs ys gx.1 gy.1 some tails)

@@ -1,9 +1,6 @@
 -- How each part of several lines is read, or fails to be.
-use Rattle.std.proofs.Common.{◌≡◌, ℕ, zero, suc, replicate, drop, Err, Ok, ◌⊎◌, inl, inr, ◌+◌, ◌<◌, ◌≤◌, List, [], ◌∷◌, ◌++◌, length, All, Option, Some, None, true, false, refl, sym, ap, ◌∙◌, subst, arith, append_assoc, length-append, lit<, lit≤, Result}
-use Rattle.std.specs.List.{flat_map, AllByRecursion as ByRecursion}
-use Rattle.std.proofs.lemmas.List.{append-nil}
-use Rattle.std.proofs.lemmas.List.Elements.{All-from_recursion, recursion_from_All, All-nil}
-use Rattle.board_model.specs.declared.made.Conn.{Conn}
+use Rattle.std.proofs.Common.{◌≡◌, ℕ, zero, suc, replicate, drop, Err, Ok, ◌⊎◌, inl, inr, ◌+◌, ◌<◌, ◌≤◌, List, [], ◌∷◌, ◌++◌, length, Option, Some, None, refl, sym, ap, ◌∙◌, subst, arith, length-append, Result}
+use Rattle.std.proofs.lemmas.List.Elements.{All-nil}
 use Rattle.route_law.specs.declared.certs.Cert.{Cert}
 use Rattle.route_law.specs.declared.replies.Fail.{Fail}
 use Rattle.route_law.specs.declared.replies.Item.{Item}
@@ -11,52 +8,34 @@ use Rattle.route_law.specs.declared.replies.Made1.{Made1}
 use Rattle.route_law.specs.declared.replies.Reply.{Reply}
 use Rattle.route_law.specs.declared.replies.Reply.TheVariants as reply
 use Rattle.route_law.specs.declared.replies.Routed.{Routed}
-use Rattle.route_law.specs.Regular.{IsRegular, IsRegularConn, IsRegularCert, IsRegularItem, IsRegularMade, IsRegularRest, IsRegularRouted}
-use Rattle.reply_text.specs.Texts.{conn_line, at_line, leg_text, conn_text, item_text, cert_line, cert_text, made_text, none_line, rest_text, route_line, routed_text, reply_text, violation_text, strip_text}
 use Rattle.reply_reader.specs.declared.places.Place.{Place}
 use Rattle.reply_reader.specs.declared.readings.ReadReplies.{ReadReplies}
-use Rattle.reply_reader.specs.InRange.{IsInRange, IsConnInRange, IsCertInRange, IsItemInRange, IsMadeInRange, IsRestInRange, IsRoutedInRange}
-use Rattle.reply_reader.specs.Parts.{IsTextOf, IsOne, followed_by, counted, IsPassed, IsRefusedIn, IsRead, Tells}
-use Rattle.reply_reader.specs.Blocks.{item_block, cert_block, made_block, fail_block, rest_block, routed_block, routed_head, routed_rest, reply_block, reply_head, reply_rest_text, reply_rest}
-use Rattle.reply_reader.proofs.Composing.{IsMadeFrom, IsSpelledAs, read_as, one_as, one_counted, one_followed, read_both, passed_none, fails_as, fails_first, fails_second}
-use Rattle.reply_reader.proofs.Joining.{conn_rest, item_parts, item_as, cert_parts, cert_as, made_parts, made_as, fail_parts, fail_as, rest_as, rest_none, routed_parts, routed_rest_as, routed_whole, routed_as, route_rest_as, all_rest_as, show_rest_as, rules_rest_as, strips_rest_as, reply_whole, reply_as}
+use Rattle.reply_reader.specs.Parts.{IsOne, followed_by, counted, IsRead, Tells}
+use Rattle.reply_reader.specs.Blocks.{item_block, cert_block, made_block, fail_block, rest_block, routed_block, routed_rest, reply_block, reply_head, reply_rest_text, reply_rest}
+use Rattle.reply_reader.proofs.Composing.{IsSpelledAs, read_as, one_as, one_counted, one_followed, read_both, passed_none, fails_as, fails_first, fails_second}
+use Rattle.reply_reader.proofs.Joining.{conn_rest, item_parts, item_as, cert_parts, cert_as, made_parts, made_as, fail_parts, fail_as, rest_as, routed_parts, routed_rest_as, routed_whole, routed_as, route_rest_as, all_rest_as, show_rest_as, rules_rest_as, strips_rest_as, reply_whole, reply_as}
 use Rattle.std.proofs.lemmas.Bool.{cases_lt}
 use Rattle.std.proofs.lemmas.List.{length-replicate}
 use Rattle.std.proofs.lemmas.List.Elements.{All-replicate}
 use Rattle.reply_reader.proofs.LineForms.{one_line, IsLineOf, line_of}
 use Rattle.reply_reader.proofs.Formed.{conn_head_form, start_form, leg_form, cert_head_form, entry_form, none_head_form, route_head_form, head_form, violation_form, strip_form}
 use Rattle.geo_rect.specs.declared.ids.ClassId.{ClassId}
-use Rattle.geo_rect.specs.declared.ids.KindId.{KindId}
-use Rattle.geo_rect.specs.declared.ids.Label.{Label}
-use Rattle.geo_rect.specs.declared.ids.Label.TheVariants.{Free, One, Many}
 use Rattle.geo_rect.specs.declared.ids.LayerId.{LayerId}
 use Rattle.geo_rect.specs.declared.ids.NetId.{NetId}
 use Rattle.geo_rect.specs.declared.ids.Node.{Node}
-use Rattle.geo_rect.specs.declared.shapes.Rect.{Rect}
 use Rattle.board_model.specs.declared.made.Leg.{Leg}
-use Rattle.board_model.specs.declared.made.Leg.TheVariants as leg
 use Rattle.board_model.specs.declared.parts.BoardParts.{BoardParts}
-use Rattle.board_model.specs.declared.shapes.Owned.{Owned}
-use Rattle.board_model.specs.declared.shapes.Violation.{Violation}
-use Rattle.board_model.specs.declared.shapes.Violation.TheVariants.{Close, Outline}
-use Rattle.board_model.specs.Rules.{IsBoard, IsName, AreNames}
-use Rattle.plane_core.specs.declared.strips.Strip.{Strip}
+use Rattle.board_model.specs.Rules.{IsBoard}
 use Rattle.route_law.specs.declared.certs.Entry.{Entry}
-use Rattle.route_law.specs.declared.certs.Origin.{Origin}
-use Rattle.route_law.specs.declared.certs.Origin.TheVariants as origin
-use Rattle.route_law.specs.Regular.{IsLayerOf, IsKindOf, IsNetOf, IsFromZero, IsRegularNode, IsRegularLeg, IsRegularEntry, IsRegularOrigin, IsRegularViolation, IsRegularOwned, IsRegularStrip, IsRegularLabel}
-use Rattle.reply_text.specs.Texts.{layer_name, class_name, kind_name, net_name, bound_text}
 use Rattle.reply_reader.specs.declared.heads.CertHead.{CertHead}
 use Rattle.reply_reader.specs.declared.heads.ConnHead.{ConnHead}
 use Rattle.reply_reader.specs.declared.heads.Head.{Head}
 use Rattle.reply_reader.specs.declared.heads.Head.TheVariants as head
 use Rattle.reply_reader.specs.declared.heads.NoneHead.{NoneHead}
 use Rattle.reply_reader.specs.declared.heads.RouteHead.{RouteHead}
-use Rattle.reply_reader.specs.InRange.{IsCoordinate, IsCount, IsCost, IsAreaInRange, IsNodeInRange, IsLegInRange, IsOriginInRange, IsEntryInRange, IsBoundInRange, IsOwnedInRange, IsViolationInRange, IsStripInRange}
-use Rattle.reply_reader.specs.Fields.{IsForm, IsClassOf, IsCoordinateAt, IsAreaAt, IsNodeAt}
-use Rattle.reply_reader.specs.Forms.{word, IsLineWord, spaced, HasGood, IsLineForm}
+use Rattle.reply_reader.specs.Forms.{HasGood}
 use Rattle.reply_reader.specs.Parts.{Part}
-use Rattle.reply_reader.specs.Said.{conn_head, conn_head_words, IsConnHeadAt, start, node_words, start_words, IsStartAt, leg_line, leg_words, IsWireAt, IsViaAt, IsLegAt, cert_head, cert_head_words, IsBoundAt, IsCertHeadAt, entry_line, area_words, entry_rest_words, origin_words, entry_words, origin_place, IsViaOriginAt, IsOriginOfAt, IsOriginAt, IsEntryRestAt, IsEntryAt, none_head, none_head_words, IsNoneHeadAt, IsRouteHead, route_head, route_head_words, IsNetAt, IsRouteHeadAt, IsHead, head_text, head_line, head_words, IsAllAt, IsRipAt, IsShowAt, IsRulesAt, IsStripsAt, IsHeadAt, violation_line, owner_words, owned_words, violation_words, owner_place, IsOwnerAt, IsOwnedAt, after_owned, IsCloseAt, IsOutlineAt, IsViolationAt, strip_line, label_words, strip_words, label_place, IsOneAt, IsLabelAt, IsStripAt}
+use Rattle.reply_reader.specs.Said.{conn_head, conn_head_words, start, start_words, leg_line, leg_words, cert_head, cert_head_words, entry_line, entry_words, none_head, none_head_words, IsRouteHead, route_head, route_head_words, IsHead, head_text, head_line, head_words, violation_line, violation_words, strip_line, strip_words}
 
 has_as : {X Y : Type 0} (p : Part X) (q : Part Y) → IsSpelledAs p q → HasGood q → HasGood p
 has_as p q w h = record { value = w.from h.value; good = w.good h.value h.good }
@@ -99,9 +78,11 @@ module _ (b : BoardParts) (kept : IsBoard b) where
   head_one = one_line (head_line b) (head_words b) (head_form b kept)
 
   route_one : IsOne (route_head b)
-  route_one = record { same = λ x y u v gx gy e.
-    let nets : 0 < length b.net_names = let n = gx.0 in omega arith in
-    (one_line (route_head b) (route_head_words b) (route_head_form b kept nets)).same x y u v gx gy e }
+  route_one = record {
+    same = λ x y u v gx gy e.
+        let nets : 0 < length b.net_names = let n = gx.0 in omega arith in
+        (one_line (route_head b) (route_head_words b) (route_head_form b kept nets)).same x y u v gx gy e;
+  }
 
   legs_some : (n : ℕ) → HasGood (counted n (leg_line b))
   legs_some n = has_counted (leg_line b) n (leg_form b kept).some
@@ -115,7 +96,7 @@ module _ (b : BoardParts) (kept : IsBoard b) where
   pub item_one : IsOne (item_block b)
   item_one = one_as (item_block b) (item_parts b) (item_as b)
       (one_followed conn_head (conn_rest b) conn_one (λ h g.
-        one_followed (start b) (λ v. counted h.legs (leg_line b)) start_one (λ v gv. one_counted (leg_line b) leg_one h.legs)))
+      one_followed (start b) (λ v. counted h.legs (leg_line b)) start_one (λ v gv. one_counted (leg_line b) leg_one h.legs)))
 
   entries_some : (n : ℕ) → HasGood (counted n (entry_line b))
   entries_some n = has_counted (entry_line b) n (entry_form b kept).some
@@ -181,13 +162,13 @@ module _ (b : BoardParts) (kept : IsBoard b) where
       → Tells (start b) bytes mid next (Err e) → Tells (item_block b) bytes old new (Err e)
   item_start_fails bytes old mid next new h e r f = fails_as (item_block b) (item_parts b) (item_as b) bytes old new new e
       (fails_second conn_head (conn_rest b) conn_one bytes old mid next new h e r
-        (fails_first (start b) (λ v. counted h.legs (leg_line b)) (more_of (start b) (λ v. counted h.legs (leg_line b)) (λ v g. legs_some h.legs)) bytes mid next next e f))
+      (fails_first (start b) (λ v. counted h.legs (leg_line b)) (more_of (start b) (λ v. counted h.legs (leg_line b)) (λ v g. legs_some h.legs)) bytes mid next next e f))
 
   pub item_legs_fail : (bytes : List ℕ) (old mid next last new : Place) (h : ConnHead) (v : Node) (e : ReadReplies) → IsRead conn_head bytes old mid h
       → IsRead (start b) bytes mid next v → Tells (counted h.legs (leg_line b)) bytes next last (Err e) → Tells (item_block b) bytes old new (Err e)
   item_legs_fail bytes old mid next last new h v e r s f = fails_as (item_block b) (item_parts b) (item_as b) bytes old new new e
       (fails_second conn_head (conn_rest b) conn_one bytes old mid last new h e r
-        (fails_second (start b) (λ v. counted h.legs (leg_line b)) start_one bytes mid next last last v e s f))
+      (fails_second (start b) (λ v. counted h.legs (leg_line b)) start_one bytes mid next last last v e s f))
 
   pub item_read : (bytes : List ℕ) (old mid next new : Place) (h : ConnHead) (v : Node) (ls : List Leg) → IsRead conn_head bytes old mid h
       → IsRead (start b) bytes mid next v → IsRead (counted h.legs (leg_line b)) bytes next new ls
@@ -257,7 +238,7 @@ module _ (b : BoardParts) (kept : IsBoard b) where
       → Tells (counted h.made (made_block b)) bytes old mid (Err e) → Tells (routed_rest b h) bytes old new (Err e)
   routed_made_fail h known bytes old mid new e f = fails_as (routed_rest b h) (routed_parts b h) (routed_rest_as b h known) bytes old new new e
       (fails_first (counted h.made (made_block b)) (λ ms. rest_block b h.missing h.made)
-        (more_of (counted h.made (made_block b)) (λ ms. rest_block b h.missing h.made) (λ ms g. rest_some h.missing h.made known.2)) bytes old mid new e f)
+      (more_of (counted h.made (made_block b)) (λ ms. rest_block b h.missing h.made) (λ ms g. rest_some h.missing h.made known.2)) bytes old mid new e f)
 
   pub routed_none_fails : (h : RouteHead) → IsRouteHead b h → (bytes : List ℕ) (old mid last new : Place) (ms : List Made1) (e : ReadReplies)
       → IsRead (counted h.made (made_block b)) bytes old mid ms → Tells (rest_block b h.missing h.made) bytes mid last (Err e) → Tells (routed_rest b h) bytes old new (Err e)
@@ -356,6 +337,39 @@ module _ (b : BoardParts) (kept : IsBoard b) where
       let w = (reply_as b).back r g in
       let l : (l : List ℕ) × IsLineOf (head_line b) (head_words b) (head_form b kept) w.inner.0 l = line_of (head_line b) (head_words b) (head_form b kept) w.inner.0 w.good.0 in
       let whole : length ((reply_block b).text r) ≡ length (head_text b w.inner.0) + length (reply_rest_text b w.inner.1) =
-        ap length ((reply_as b).text w.inner w.good) ∙ length-append (head_text b w.inner.0) (reply_rest_text b w.inner.1) in
+      ap length ((reply_as b).text w.inner w.good) ∙ length-append (head_text b w.inner.0) (reply_rest_text b w.inner.1) in
       let first : length (head_text b w.inner.0) ≡ length l.0 + 1 = ap length l.1.text ∙ length-append l.0 (10 ∷ []) in
       omega arith
+
+  pub route_fail : (h : Head) (r : RouteHead) → h ≡ head.Route r → IsHead b h → (bytes : List ℕ) (old mid new : Place) (e : ReadReplies)
+      → Tells (routed_rest b r) bytes old mid (Err e) → Tells (reply_rest b h) bytes old new (Err e)
+  route_fail h r is known bytes old mid new e f =
+      let P : Head → Type 0 = λ (z : Head). IsHead b z → Tells (reply_rest b z) bytes old new (Err e) in
+      subst P (sym is) (λ g. fails_as (reply_rest b (head.Route r)) (routed_rest b r) (route_rest_as b r g) bytes old mid new e f) known
+
+  pub nets_fail : (h : Head) (n : ℕ) → h ≡ head.All n → IsHead b h → (bytes : List ℕ) (old mid new : Place) (e : ReadReplies)
+      → Tells (counted n (routed_block b)) bytes old mid (Err e) → Tells (reply_rest b h) bytes old new (Err e)
+  nets_fail h n is known bytes old mid new e f =
+      let P : Head → Type 0 = λ (z : Head). IsHead b z → Tells (reply_rest b z) bytes old new (Err e) in
+      subst P (sym is) (λ g. fails_as (reply_rest b (head.All n)) (counted n (routed_block b)) (all_rest_as b n g) bytes old mid new e f) known
+
+  pub items_fail : (h : Head) (n : NetId) (d k : ℕ) → h ≡ head.Show n d k → IsHead b h → (bytes : List ℕ) (old mid new : Place) (e : ReadReplies)
+      → Tells (counted k (item_block b)) bytes old mid (Err e) → Tells (reply_rest b h) bytes old new (Err e)
+  items_fail h n d k is known bytes old mid new e f =
+      let P : Head → Type 0 = λ (z : Head). IsHead b z → Tells (reply_rest b z) bytes old new (Err e) in
+      subst P (sym is) (λ g. fails_as (reply_rest b (head.Show n d k)) (counted k (item_block b)) (show_rest_as b n d k g) bytes old mid new e f) known
+
+  pub found_fail : (h : Head) (k : ℕ) → h ≡ head.Rules k → IsHead b h → (bytes : List ℕ) (old mid new : Place) (e : ReadReplies)
+      → Tells (counted k (violation_line b)) bytes old mid (Err e) → Tells (reply_rest b h) bytes old new (Err e)
+  found_fail h k is known bytes old mid new e f =
+      let P : Head → Type 0 = λ (z : Head). IsHead b z → Tells (reply_rest b z) bytes old new (Err e) in
+      subst P (sym is) (λ g. fails_as (reply_rest b (head.Rules k)) (counted k (violation_line b)) (rules_rest_as b k g) bytes old mid new e f) known
+
+  pub strips_fail : (h : Head) (l : LayerId) (c : ClassId) (k : ℕ) → h ≡ head.Strips l c k → IsHead b h → (bytes : List ℕ) (old mid new : Place) (e : ReadReplies)
+      → Tells (counted k (strip_line b)) bytes old mid (Err e) → Tells (reply_rest b h) bytes old new (Err e)
+  strips_fail h l c k is known bytes old mid new e f =
+      let P : Head → Type 0 = λ (z : Head). IsHead b z → Tells (reply_rest b z) bytes old new (Err e) in
+      subst P (sym is) (λ g. fails_as (reply_rest b (head.Strips l c k)) (counted k (strip_line b)) (strips_rest_as b l c k g) bytes old mid new e f) known
+
+  pub nets_there : (h : Head) (n : ℕ) → h ≡ head.All n → IsHead b h → 0 < n → HasGood (routed_block b)
+  nets_there h n is known more = routed_some ((subst (IsHead b) is known).1 more)

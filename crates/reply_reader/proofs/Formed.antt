@@ -1,13 +1,11 @@
 -- The lines of a text of replies are lines of words.
-use Rattle.std.proofs.Common.{◌≡◌, ℕ, zero, suc, ℤ, pos, negsuc, ◌+◌, ◌<◌, ◌≤◌, ◌≤ℤ◌, ◌^◌, nat_lt, true, List, [], ◌∷◌, ◌++◌, length, get_or, All, Option, Some, None, codes, decimal, refl, sym, ap, ◌∙◌, subst, arith, append_assoc, lit<, lit≤}
+use Rattle.std.proofs.Common.{◌≡◌, ℕ, ℤ, pos, negsuc, ◌<◌, ◌≤◌, ◌≤ℤ◌, ◌^◌, List, [], ◌∷◌, ◌++◌, length, get_or, Option, Some, None, codes, decimal, refl, sym, ap, ◌∙◌, subst, arith, append_assoc, lit<, lit≤}
 use Rattle.std.specs.Fmt.{signed_decimal}
-use Rattle.std.specs.List.{list_all, AllByRecursion as ByRecursion}
+use Rattle.std.specs.List.{AllByRecursion as ByRecursion}
 use Rattle.std.proofs.lemmas.List.{append-nil}
-use Rattle.std.proofs.lemmas.List.Elements.{All-from_recursion, recursion_from_All}
+use Rattle.std.proofs.lemmas.List.Elements.{All-from_recursion}
 use Rattle.std.proofs.lemmas.Int.{ints}
-use Rattle.board_model.specs.Rules.{IsWordByte}
 use Rattle.board_model.specs.Known.{IsOwner}
-use Rattle.route_law.specs.Routing.{conns_needed}
 use Rattle.reply_text.specs.Texts.{area_text, node_text, conn_line, at_line, wire_line, via_line, leg_text, cert_line, origin_text, entry_text, none_line, route_line, all_line, rip_line, show_line, rules_line, owned_text, close_line, outline_line, violation_text, strips_line, label_text, strip_text}
 use Rattle.reply_reader.proofs.Decimals.{digits_above}
 use Rattle.reply_reader.proofs.Standing.{conn_head_stands, start_stands, leg_stands, cert_head_stands, entry_stands, none_head_stands, route_head_stands, head_stands, violation_stands, strip_stands}
@@ -26,24 +24,20 @@ use Rattle.board_model.specs.declared.parts.BoardParts.{BoardParts}
 use Rattle.board_model.specs.declared.shapes.Owned.{Owned}
 use Rattle.board_model.specs.declared.shapes.Violation.{Violation}
 use Rattle.board_model.specs.declared.shapes.Violation.TheVariants.{Close, Outline}
-use Rattle.board_model.specs.Rules.{IsBoard, IsName, AreNames}
+use Rattle.board_model.specs.Rules.{IsBoard, AreNames}
 use Rattle.plane_core.specs.declared.strips.Strip.{Strip}
 use Rattle.route_law.specs.declared.certs.Entry.{Entry}
 use Rattle.route_law.specs.declared.certs.Origin.{Origin}
 use Rattle.route_law.specs.declared.certs.Origin.TheVariants as origin
-use Rattle.route_law.specs.Regular.{IsLayerOf, IsKindOf, IsNetOf, IsFromZero, IsRegularNode, IsRegularLeg, IsRegularEntry, IsRegularOrigin, IsRegularViolation, IsRegularOwned, IsRegularStrip, IsRegularLabel}
+use Rattle.route_law.specs.Regular.{IsLayerOf, IsKindOf, IsNetOf, IsFromZero, IsRegularNode, IsRegularOrigin, IsRegularOwned, IsRegularLabel}
 use Rattle.reply_text.specs.Texts.{layer_name, class_name, kind_name, net_name, bound_text}
-use Rattle.reply_reader.specs.declared.heads.CertHead.{CertHead}
-use Rattle.reply_reader.specs.declared.heads.ConnHead.{ConnHead}
 use Rattle.reply_reader.specs.declared.heads.Head.{Head}
 use Rattle.reply_reader.specs.declared.heads.Head.TheVariants as head
-use Rattle.reply_reader.specs.declared.heads.NoneHead.{NoneHead}
 use Rattle.reply_reader.specs.declared.heads.RouteHead.{RouteHead}
-use Rattle.reply_reader.specs.InRange.{IsCoordinate, IsCount, IsCost, IsAreaInRange, IsNodeInRange, IsLegInRange, IsOriginInRange, IsEntryInRange, IsBoundInRange, IsOwnedInRange, IsViolationInRange, IsStripInRange}
-use Rattle.reply_reader.specs.Fields.{IsForm, IsClassOf, IsCoordinateAt, IsAreaAt, IsNodeAt}
-use Rattle.reply_reader.specs.Forms.{word, IsLineWord, spaced, HasGood, IsLineForm}
-use Rattle.reply_reader.specs.Parts.{Part}
-use Rattle.reply_reader.specs.Said.{conn_head, conn_head_words, IsConnHeadAt, start, node_words, start_words, IsStartAt, leg_line, leg_words, IsWireAt, IsViaAt, IsLegAt, cert_head, cert_head_words, IsBoundAt, IsCertHeadAt, entry_line, area_words, entry_rest_words, origin_words, entry_words, origin_place, IsViaOriginAt, IsOriginOfAt, IsOriginAt, IsEntryRestAt, IsEntryAt, none_head, none_head_words, IsNoneHeadAt, IsRouteHead, route_head, route_head_words, IsNetAt, IsRouteHeadAt, IsHead, head_text, head_line, head_words, IsAllAt, IsRipAt, IsShowAt, IsRulesAt, IsStripsAt, IsHeadAt, violation_line, owner_words, owned_words, violation_words, owner_place, IsOwnerAt, IsOwnedAt, after_owned, IsCloseAt, IsOutlineAt, IsViolationAt, strip_line, label_words, strip_words, label_place, IsOneAt, IsLabelAt, IsStripAt}
+use Rattle.reply_reader.specs.InRange.{IsCoordinate, IsCount, IsCost, IsAreaInRange, IsNodeInRange, IsOriginInRange, IsBoundInRange, IsOwnedInRange}
+use Rattle.reply_reader.specs.Fields.{IsClassOf}
+use Rattle.reply_reader.specs.Forms.{IsLineWord, spaced, IsLineForm}
+use Rattle.reply_reader.specs.Said.{conn_head, conn_head_words, IsConnHeadAt, start, node_words, start_words, IsStartAt, leg_line, leg_words, IsLegAt, cert_head, cert_head_words, IsCertHeadAt, entry_line, area_words, entry_rest_words, origin_words, entry_words, IsEntryAt, none_head, none_head_words, IsNoneHeadAt, IsRouteHead, route_head, route_head_words, IsRouteHeadAt, IsHead, head_text, head_line, head_words, IsHeadAt, violation_line, owner_words, owned_words, violation_words, IsViolationAt, strip_line, label_words, strip_words, IsStripAt}
 
 -- digits are no spaces and no line feeds
 clean_digits : (ds : List ℕ) → ByRecursion (λ c. 48 ≤ c) ds → ByRecursion (λ c. 32 < c) ds
@@ -155,11 +149,16 @@ clean_word_many : IsLineWord (codes "many")
 clean_word_many = All-from_recursion (λ c. 32 < c) (codes "many") (lit< tt, (lit< tt, (lit< tt, (lit< tt, tt))))
 
 clean_area : (r : Rect) → IsFromZero r → IsAreaInRange r → (rest : List (List ℕ)) → ByRecursion IsLineWord rest → ByRecursion IsLineWord (area_words r ++ rest)
-clean_area r g i rest h =
-    (clean_signed r.x0 g.left i.left,
-     (clean_signed r.y0 g.below i.below,
-      (clean_signed r.x1 (let o = r.x_ordered in let l = g.left in omega (arith, ints)) i.right,
-       (clean_signed r.y1 (let o = r.y_ordered in let l = g.below in omega (arith, ints)) i.above, h))))
+clean_area r g i rest h = (
+  clean_signed r.x0 g.left i.left,
+  (
+    clean_signed r.y0 g.below i.below,
+    (
+      clean_signed r.x1 (let o = r.x_ordered in let l = g.left in omega (arith, ints)) i.right,
+      (clean_signed r.y1 (let o = r.y_ordered in let l = g.below in omega (arith, ints)) i.above, h),
+    ),
+  ),
+)
 
 clean_node : (b : BoardParts) → IsBoard b → (v : Node) → IsRegularNode b v → IsNodeInRange v → ByRecursion IsLineWord (node_words b v)
 clean_node b kept v g i =
@@ -269,10 +268,10 @@ unfolding entry_text
 entry_spelled b e =
     let end : List ℕ = codes " " ++ (decimal e.cost ++ codes "\n") in
     let areas : area_text e.strip ++ (area_text e.front ++ end) ≡ nested (area_words e.strip) (nested (area_words e.front) end) =
-      area_nested e.strip (area_text e.front ++ end) ∙ ap (nested (area_words e.strip)) (area_nested e.front end) in
+    area_nested e.strip (area_text e.front ++ end) ∙ ap (nested (area_words e.strip)) (area_nested e.front end) in
     let line : origin_text b e.origin ++ codes " " ++ layer_name b e.layer ++ area_text e.strip ++ area_text e.front ++ codes " " ++ decimal e.cost ++ codes "\n"
-        ≡ origin_text b e.origin ++ (codes " " ++ (layer_name b e.layer ++ (area_text e.strip ++ (area_text e.front ++ end)))) =
-      group8 (origin_text b e.origin) (codes " ") (layer_name b e.layer) (area_text e.strip) (area_text e.front) (codes " ") (decimal e.cost) (codes "\n") in
+    ≡ origin_text b e.origin ++ (codes " " ++ (layer_name b e.layer ++ (area_text e.strip ++ (area_text e.front ++ end)))) =
+    group8 (origin_text b e.origin) (codes " ") (layer_name b e.layer) (area_text e.strip) (area_text e.front) (codes " ") (decimal e.cost) (codes "\n") in
     spelled_by _ (entry_words b e)
     (after_space (line ∙ ap (λ (l : List ℕ). origin_text b e.origin ++ (codes " " ++ (layer_name b e.layer ++ l))) areas)
     ∙ origin_nested b e.origin (nested (entry_rest_words b e) (10 ∷ []))
@@ -290,8 +289,8 @@ unfolding close_line
 close_spelled b l o q =
     let second : codes " " ++ (owned_text b q ++ codes "\n") ≡ nested (owned_words b q) (10 ∷ []) = owned_nested b q.owner q.area (10 ∷ []) in
     let both : codes " " ++ (owned_text b o ++ (codes " " ++ (owned_text b q ++ codes "\n"))) ≡ nested (owned_words b o ++ owned_words b q) (10 ∷ []) =
-      owned_nested b o.owner o.area (codes " " ++ (owned_text b q ++ codes "\n"))
-      ∙ ap (nested (owned_words b o)) second ∙ sym (nested_append (owned_words b o) (owned_words b q) (10 ∷ [])) in
+    owned_nested b o.owner o.area (codes " " ++ (owned_text b q ++ codes "\n"))
+    ∙ ap (nested (owned_words b o)) second ∙ sym (nested_append (owned_words b o) (owned_words b q) (10 ∷ [])) in
     spelled_by _ (violation_words b (Close l o q))
     (after_space (group7 (codes "close ") (layer_name b l) (codes " ") (owned_text b o) (codes " ") (owned_text b q) (codes "\n")
     ∙ ap (λ (t : List ℕ). codes "close " ++ (layer_name b l ++ t)) both))
@@ -336,18 +335,31 @@ entry_clean : (b : BoardParts) → IsBoard b → (e : Entry) → (entry_line b).
 entry_clean b kept e g = from e.origin g.0.kind g.1.source
   where
     rest : ByRecursion IsLineWord (entry_rest_words b e)
-    rest = (clean_layer b kept e.layer g.0.layer,
-        clean_area e.strip g.0.strip g.1.strip (area_words e.front ++ decimal e.cost ∷ [])
-        (clean_area e.front g.0.front g.1.front (decimal e.cost ∷ []) (clean_cost e.cost g.1.cost, tt)))
+    rest = (
+      clean_layer b kept e.layer g.0.layer,
+      clean_area e.strip g.0.strip g.1.strip (area_words e.front ++ decimal e.cost ∷ [])
+          (clean_area e.front g.0.front g.1.front (decimal e.cost ∷ []) (clean_cost e.cost g.1.cost, tt)),
+    )
+
     from : (o : Origin) → IsRegularOrigin b o → IsOriginInRange o → ByRecursion IsLineWord (origin_words b o ++ entry_rest_words b e)
     from (origin.Source n) r i = (clean_word_src, (clean_count n i, rest))
     from (origin.Step n) r i = (clean_word_step, (clean_count n i, rest))
     from (origin.Via n k) r i = (clean_word_via, (clean_count n i, (clean_kind b kept k r, rest)))
 
 route_clean : (b : BoardParts) → IsBoard b → (h : RouteHead) → IsRouteHead b h → ByRecursion IsLineWord (route_head_words b h)
-route_clean b kept h g =
-    (clean_word_route, (clean_net b kept h.net g.0, (clean_word_made, (clean_count h.made (let m = g.1 in let l = g.2 in omega arith),
-    (clean_word_of, (clean_count h.missing g.1, tt))))))
+route_clean b kept h g = (
+  clean_word_route,
+  (
+    clean_net b kept h.net g.0,
+    (
+      clean_word_made,
+      (
+        clean_count h.made (let m = g.1 in let l = g.2 in omega arith),
+        (clean_word_of, (clean_count h.missing g.1, tt)),
+      ),
+    ),
+  ),
+)
 
 head_clean : (b : BoardParts) → IsBoard b → (h : Head) → IsHead b h → ByRecursion IsLineWord (head_words b h)
 head_clean b kept (head.Route h) g = route_clean b kept h g
@@ -371,18 +383,28 @@ owned_clean b kept o g i rest r =
     (owner_clean b kept o.owner g.owner (area_words o.area ++ rest) (clean_area o.area g.area i.area rest r))
 
 violation_clean : (b : BoardParts) → IsBoard b → (v : Violation) → (violation_line b).IsGood v → ByRecursion IsLineWord (violation_words b v)
-violation_clean b kept (Close l o q) g =
-    (clean_word_close, (clean_layer b kept l g.0.0, owned_clean b kept o g.0.1 g.1.0 (owned_words b q)
-    (subst (ByRecursion IsLineWord) (append-nil (owned_words b q)) (owned_clean b kept q g.0.2 g.1.1 [] tt))))
-violation_clean b kept (Outline l o) g =
-    (clean_word_outline, (clean_layer b kept l g.0.0,
-    subst (ByRecursion IsLineWord) (append-nil (owned_words b o)) (owned_clean b kept o g.0.1 g.1 [] tt)))
+violation_clean b kept (Close l o q) g = (
+  clean_word_close,
+  (
+    clean_layer b kept l g.0.0,
+    owned_clean b kept o g.0.1 g.1.0 (owned_words b q)
+        (subst (ByRecursion IsLineWord) (append-nil (owned_words b q)) (owned_clean b kept q g.0.2 g.1.1 [] tt)),
+  ),
+)
+violation_clean b kept (Outline l o) g = (
+  clean_word_outline,
+  (
+    clean_layer b kept l g.0.0,
+    subst (ByRecursion IsLineWord) (append-nil (owned_words b o)) (owned_clean b kept o g.0.1 g.1 [] tt),
+  ),
+)
 
 strip_clean : (b : BoardParts) → IsBoard b → (s : Strip) → (strip_line b).IsGood s → ByRecursion IsLineWord (strip_words b s)
 strip_clean b kept s g = from s.label g.0.label
   where
     corners : ByRecursion IsLineWord (area_words s.area)
     corners = clean_area s.area g.0.area g.1.area [] tt
+
     from : (l : Label) → IsRegularLabel b l → ByRecursion IsLineWord (label_words b l ++ area_words s.area)
     from Free r = (clean_word_free, corners)
     from (One n) r = (clean_word_one, (clean_net b kept n r, corners))
@@ -486,8 +508,10 @@ pub entry_form : (b : BoardParts) → IsBoard b → IsLineForm (entry_line b) (e
 entry_form b kept = record {
   some = record {
     value = record { layer = record { 0 = 0 }; strip = point; front = point; cost = 0; origin = origin.Source 0 };
-    good = (record { layer = kept.some_layer; strip = point_from; front = point_from; kind = tt },
-        record { source = lit< tt; strip = point_in; front = point_in; cost = lit< tt });
+    good = (
+      record { layer = kept.some_layer; strip = point_from; front = point_from; kind = tt },
+      record { source = lit< tt; strip = point_in; front = point_in; cost = lit< tt },
+    );
   };
   spelled = λ x g. entry_spelled b x;
   clean = λ x g. All-from_recursion IsLineWord (entry_words b x) (entry_clean b kept x g);
@@ -545,4 +569,3 @@ strip_form b kept = record {
   few = λ x g. label_few b x.label x.area;
   same = λ x y gx gy e. same_strip b kept (strip_words b y) x y (subst (λ (ws : List (List ℕ)). IsStripAt b ws x) e (strip_stands b x gx)) (strip_stands b y gy);
 }
-

@@ -1,39 +1,21 @@
 -- The words of a line are those that spell what stands in them.
-use Rattle.std.proofs.Common.{◌≡◌, ℕ, zero, suc, ◌+◌, ◌<◌, ◌≤◌, ◌^◌, List, [], ◌∷◌, ◌++◌, length, get_or, drop, drop-cons, length-drop, Option, Some, None, codes, decimal, refl, sym, ap, ◌∙◌, subst, arith}
-use Rattle.std.specs.Fmt.{signed_decimal}
+use Rattle.std.proofs.Common.{◌≡◌, ℕ, zero, suc, ◌+◌, ◌<◌, List, [], ◌∷◌, length, drop, drop-cons, length-drop, Option, Some, None, refl, ap, ◌∙◌, arith}
 use Rattle.std.specs.Option.{IfNone}
-use Rattle.geo_rect.specs.declared.ids.ClassId.{ClassId}
-use Rattle.geo_rect.specs.declared.ids.KindId.{KindId}
-use Rattle.geo_rect.specs.declared.ids.Label.{Label}
-use Rattle.geo_rect.specs.declared.ids.Label.TheVariants.{Free, One, Many}
 use Rattle.geo_rect.specs.declared.ids.LayerId.{LayerId}
 use Rattle.geo_rect.specs.declared.ids.NetId.{NetId}
-use Rattle.geo_rect.specs.declared.ids.Node.{Node}
 use Rattle.geo_rect.specs.declared.shapes.Rect.{Rect}
-use Rattle.board_model.specs.declared.made.Leg.{Leg}
-use Rattle.board_model.specs.declared.made.Leg.TheVariants as leg
 use Rattle.board_model.specs.declared.parts.BoardParts.{BoardParts}
 use Rattle.board_model.specs.declared.shapes.Owned.{Owned}
 use Rattle.board_model.specs.declared.shapes.Violation.{Violation}
 use Rattle.board_model.specs.declared.shapes.Violation.TheVariants.{Close, Outline}
-use Rattle.board_model.specs.Rules.{IsBoard, IsName, AreNames}
-use Rattle.plane_core.specs.declared.strips.Strip.{Strip}
 use Rattle.route_law.specs.declared.certs.Entry.{Entry}
 use Rattle.route_law.specs.declared.certs.Origin.{Origin}
 use Rattle.route_law.specs.declared.certs.Origin.TheVariants as origin
-use Rattle.route_law.specs.Regular.{IsLayerOf, IsKindOf, IsNetOf, IsFromZero, IsRegularNode, IsRegularLeg, IsRegularEntry, IsRegularOrigin, IsRegularViolation, IsRegularOwned, IsRegularStrip, IsRegularLabel}
-use Rattle.reply_text.specs.Texts.{layer_name, class_name, kind_name, net_name, bound_text}
-use Rattle.reply_reader.specs.declared.heads.CertHead.{CertHead}
-use Rattle.reply_reader.specs.declared.heads.ConnHead.{ConnHead}
-use Rattle.reply_reader.specs.declared.heads.Head.{Head}
-use Rattle.reply_reader.specs.declared.heads.Head.TheVariants as head
-use Rattle.reply_reader.specs.declared.heads.NoneHead.{NoneHead}
-use Rattle.reply_reader.specs.declared.heads.RouteHead.{RouteHead}
-use Rattle.reply_reader.specs.InRange.{IsCoordinate, IsCount, IsCost, IsAreaInRange, IsNodeInRange, IsLegInRange, IsOriginInRange, IsEntryInRange, IsBoundInRange, IsOwnedInRange, IsViolationInRange, IsStripInRange}
-use Rattle.reply_reader.specs.Fields.{IsForm, IsClassOf, IsCoordinateAt, IsAreaAt, IsNodeAt}
-use Rattle.reply_reader.specs.Forms.{word, IsLineWord, spaced, HasGood, IsLineForm}
-use Rattle.reply_reader.specs.Parts.{Part}
-use Rattle.reply_reader.specs.Said.{conn_head, conn_head_words, IsConnHeadAt, start, node_words, start_words, IsStartAt, leg_line, leg_words, IsWireAt, IsViaAt, IsLegAt, cert_head, cert_head_words, IsBoundAt, IsCertHeadAt, entry_line, area_words, entry_rest_words, origin_words, entry_words, origin_place, IsViaOriginAt, IsOriginOfAt, IsOriginAt, IsEntryRestAt, IsEntryAt, none_head, none_head_words, IsNoneHeadAt, IsRouteHead, route_head, route_head_words, IsNetAt, IsRouteHeadAt, IsHead, head_text, head_line, head_words, IsAllAt, IsRipAt, IsShowAt, IsRulesAt, IsStripsAt, IsHeadAt, violation_line, owner_words, owned_words, violation_words, owner_place, IsOwnerAt, IsOwnedAt, after_owned, IsCloseAt, IsOutlineAt, IsViolationAt, strip_line, label_words, strip_words, label_place, IsOneAt, IsLabelAt, IsStripAt}
+use Rattle.route_law.specs.Regular.{IsFromZero}
+use Rattle.reply_reader.specs.InRange.{IsAreaInRange}
+use Rattle.reply_reader.specs.Fields.{IsAreaAt}
+use Rattle.reply_reader.specs.Forms.{word}
+use Rattle.reply_reader.specs.Said.{entry_line, entry_words, origin_place, IsOriginAt, IsEntryRestAt, IsEntryAt, violation_line, violation_words, IsCloseAt, IsOutlineAt, IsViolationAt}
 
 -- what follows from what is said where there is no value
 pub IfNone_then : {X : Type 0} (o : Option X) {P Q : Type 0} → IfNone o P → (P → Q) → IfNone o Q

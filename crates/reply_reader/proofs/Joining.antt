@@ -1,9 +1,8 @@
 -- The parts of several lines are made of their lines.
-use Rattle.std.proofs.Common.{◌≡◌, ℕ, zero, suc, ◌+◌, ◌<◌, ◌≤◌, List, [], ◌∷◌, ◌++◌, length, All, Option, Some, None, true, false, refl, sym, ap, ◌∙◌, subst, arith, append_assoc, lit<, lit≤}
-use Rattle.std.specs.List.{flat_map, AllByRecursion as ByRecursion}
+use Rattle.std.proofs.Common.{◌≡◌, ℕ, ◌<◌, ◌≤◌, List, [], ◌∷◌, ◌++◌, length, All, Option, Some, None, false, refl, sym, ap, ◌∙◌, subst, arith, append_assoc}
+use Rattle.std.specs.List.{flat_map}
 use Rattle.std.proofs.lemmas.List.{append-nil}
-use Rattle.std.proofs.lemmas.List.Elements.{All-from_recursion, recursion_from_All, All-nil}
-use Rattle.board_model.specs.declared.made.Conn.{Conn}
+use Rattle.std.proofs.lemmas.List.Elements.{recursion_from_All}
 use Rattle.route_law.specs.declared.certs.Cert.{Cert}
 use Rattle.route_law.specs.declared.replies.Fail.{Fail}
 use Rattle.route_law.specs.declared.replies.Item.{Item}
@@ -11,48 +10,29 @@ use Rattle.route_law.specs.declared.replies.Made1.{Made1}
 use Rattle.route_law.specs.declared.replies.Reply.{Reply}
 use Rattle.route_law.specs.declared.replies.Reply.TheVariants as reply
 use Rattle.route_law.specs.declared.replies.Routed.{Routed}
-use Rattle.route_law.specs.Regular.{IsRegular, IsRegularConn, IsRegularCert, IsRegularItem, IsRegularMade, IsRegularRest, IsRegularRouted}
-use Rattle.reply_text.specs.Texts.{conn_line, at_line, leg_text, conn_text, item_text, cert_line, cert_text, made_text, none_line, rest_text, route_line, routed_text, reply_text, violation_text, strip_text}
-use Rattle.reply_reader.specs.declared.places.Place.{Place}
-use Rattle.reply_reader.specs.declared.readings.ReadReplies.{ReadReplies}
-use Rattle.reply_reader.specs.InRange.{IsInRange, IsConnInRange, IsCertInRange, IsItemInRange, IsMadeInRange, IsRestInRange, IsRoutedInRange}
-use Rattle.reply_reader.specs.Parts.{IsTextOf, IsOne, followed_by, counted, IsPassed, IsRefusedIn, IsRead, Tells}
+use Rattle.route_law.specs.Regular.{IsRegularItem, IsRegularMade, IsRegularRest, IsRegularRouted}
+use Rattle.reply_text.specs.Texts.{conn_line, at_line, leg_text, conn_text, item_text, cert_line, cert_text, made_text, rest_text, route_line, routed_text, reply_text}
+use Rattle.reply_reader.specs.InRange.{IsItemInRange, IsMadeInRange, IsRoutedInRange}
+use Rattle.reply_reader.specs.Parts.{followed_by, counted}
 use Rattle.reply_reader.specs.Blocks.{item_block, cert_block, made_block, fail_block, rest_block, routed_block, routed_head, routed_rest, reply_block, reply_head, reply_rest_text, reply_rest}
-use Rattle.reply_reader.proofs.Composing.{IsMadeFrom, IsSpelledAs, refused_as, read_as, one_as, one_counted, one_followed, refused_first, refused_second, read_both, passed_none}
-use Rattle.reply_reader.proofs.LineForms.{one_line}
-use Rattle.reply_reader.proofs.Formed.{conn_head_form, start_form, leg_form, cert_head_form, entry_form, none_head_form, route_head_form, head_form, violation_form, strip_form}
+use Rattle.reply_reader.proofs.Composing.{IsMadeFrom, IsSpelledAs}
 use Rattle.geo_rect.specs.declared.ids.ClassId.{ClassId}
-use Rattle.geo_rect.specs.declared.ids.KindId.{KindId}
-use Rattle.geo_rect.specs.declared.ids.Label.{Label}
-use Rattle.geo_rect.specs.declared.ids.Label.TheVariants.{Free, One, Many}
 use Rattle.geo_rect.specs.declared.ids.LayerId.{LayerId}
 use Rattle.geo_rect.specs.declared.ids.NetId.{NetId}
 use Rattle.geo_rect.specs.declared.ids.Node.{Node}
-use Rattle.geo_rect.specs.declared.shapes.Rect.{Rect}
 use Rattle.board_model.specs.declared.made.Leg.{Leg}
-use Rattle.board_model.specs.declared.made.Leg.TheVariants as leg
 use Rattle.board_model.specs.declared.parts.BoardParts.{BoardParts}
-use Rattle.board_model.specs.declared.shapes.Owned.{Owned}
-use Rattle.board_model.specs.declared.shapes.Violation.{Violation}
-use Rattle.board_model.specs.declared.shapes.Violation.TheVariants.{Close, Outline}
-use Rattle.board_model.specs.Rules.{IsBoard, IsName, AreNames}
-use Rattle.plane_core.specs.declared.strips.Strip.{Strip}
 use Rattle.route_law.specs.declared.certs.Entry.{Entry}
-use Rattle.route_law.specs.declared.certs.Origin.{Origin}
-use Rattle.route_law.specs.declared.certs.Origin.TheVariants as origin
-use Rattle.route_law.specs.Regular.{IsLayerOf, IsKindOf, IsNetOf, IsFromZero, IsRegularNode, IsRegularLeg, IsRegularEntry, IsRegularOrigin, IsRegularViolation, IsRegularOwned, IsRegularStrip, IsRegularLabel}
-use Rattle.reply_text.specs.Texts.{layer_name, class_name, kind_name, net_name, bound_text}
+use Rattle.route_law.specs.Regular.{IsRegularLeg, IsRegularEntry, IsRegularViolation, IsRegularStrip}
 use Rattle.reply_reader.specs.declared.heads.CertHead.{CertHead}
 use Rattle.reply_reader.specs.declared.heads.ConnHead.{ConnHead}
 use Rattle.reply_reader.specs.declared.heads.Head.{Head}
 use Rattle.reply_reader.specs.declared.heads.Head.TheVariants as head
 use Rattle.reply_reader.specs.declared.heads.NoneHead.{NoneHead}
 use Rattle.reply_reader.specs.declared.heads.RouteHead.{RouteHead}
-use Rattle.reply_reader.specs.InRange.{IsCoordinate, IsCount, IsCost, IsAreaInRange, IsNodeInRange, IsLegInRange, IsOriginInRange, IsEntryInRange, IsBoundInRange, IsOwnedInRange, IsViolationInRange, IsStripInRange}
-use Rattle.reply_reader.specs.Fields.{IsForm, IsClassOf, IsCoordinateAt, IsAreaAt, IsNodeAt}
-use Rattle.reply_reader.specs.Forms.{word, IsLineWord, spaced, HasGood, IsLineForm}
+use Rattle.reply_reader.specs.InRange.{IsCount, IsLegInRange, IsEntryInRange, IsViolationInRange, IsStripInRange}
 use Rattle.reply_reader.specs.Parts.{Part}
-use Rattle.reply_reader.specs.Said.{conn_head, conn_head_words, IsConnHeadAt, start, node_words, start_words, IsStartAt, leg_line, leg_words, IsWireAt, IsViaAt, IsLegAt, cert_head, cert_head_words, IsBoundAt, IsCertHeadAt, entry_line, area_words, entry_rest_words, origin_words, entry_words, origin_place, IsViaOriginAt, IsOriginOfAt, IsOriginAt, IsEntryRestAt, IsEntryAt, none_head, none_head_words, IsNoneHeadAt, IsRouteHead, route_head, route_head_words, IsNetAt, IsRouteHeadAt, IsHead, head_text, head_line, head_words, IsAllAt, IsRipAt, IsShowAt, IsRulesAt, IsStripsAt, IsHeadAt, violation_line, owner_words, owned_words, violation_words, owner_place, IsOwnerAt, IsOwnedAt, after_owned, IsCloseAt, IsOutlineAt, IsViolationAt, strip_line, label_words, strip_words, label_place, IsOneAt, IsLabelAt, IsStripAt}
+use Rattle.reply_reader.specs.Said.{conn_head, start, leg_line, cert_head, entry_line, none_head, IsRouteHead, route_head, IsHead, head_text, head_line, violation_line, strip_line}
 
 -- each of two things that hold of all
 pub both_all : {X : Type 0} (P Q : X → Type 0) (xs : List X) → All P xs → All Q xs → All (λ x. P x × Q x) xs
@@ -84,21 +64,25 @@ item_spelled b h v ls e =
 unfoldable pub item_as : (b : BoardParts) → IsSpelledAs (item_block b) (item_parts b)
 item_as b = record {
   from = item_from;
-  good = λ y g. (record { start = g.1.0.0; legs = first_all (IsRegularLeg b) IsLegInRange y.1.1 g.1.1.1 },
-      record {
-        number = g.0.0;
-        conn = record {
-          cost = g.0.1;
-          start = g.1.0.1;
-          number_of_legs = subst IsCount (sym g.1.1.0) g.0.2;
-          legs = second_all (IsRegularLeg b) IsLegInRange y.1.1 g.1.1.1;
-        };
-      });
+  good = λ y g. (
+    record { start = g.1.0.0; legs = first_all (IsRegularLeg b) IsLegInRange y.1.1 g.1.1.1 },
+    record {
+      number = g.0.0;
+      conn = record {
+        cost = g.0.1;
+        start = g.1.0.1;
+        number_of_legs = subst IsCount (sym g.1.1.0) g.0.2;
+        legs = second_all (IsRegularLeg b) IsLegInRange y.1.1 g.1.1.1;
+      };
+    },
+  );
   text = λ y g. item_spelled b y.0 y.1.0 y.1.1 g.1.1.0;
   back = λ x g. record {
     inner = (record { number = x.number; cost = x.conn.cost; legs = length x.conn.legs }, (x.conn.start, x.conn.legs));
-    good = ((g.1.number, g.1.conn.cost, g.1.conn.number_of_legs),
-        ((g.0.start, g.1.conn.start), (refl, both_all (IsRegularLeg b) IsLegInRange x.conn.legs g.0.legs g.1.conn.legs)));
+    good = (
+      (g.1.number, g.1.conn.cost, g.1.conn.number_of_legs),
+      ((g.0.start, g.1.conn.start), (refl, both_all (IsRegularLeg b) IsLegInRange x.conn.legs g.0.legs g.1.conn.legs)),
+    );
     made = refl;
   };
 }
@@ -118,8 +102,10 @@ cert_made b h es e = ap (λ (n : ℕ). cert_line h.bound n ++ flat_map (entry_li
 unfoldable pub cert_as : (b : BoardParts) → IsSpelledAs (cert_block b) (cert_parts b)
 cert_as b = record {
   from = cert_from;
-  good = λ y g. (first_all (IsRegularEntry b) IsEntryInRange y.1 g.1.1,
-      record { bound = g.0.0; number_of_entries = subst IsCount (sym g.1.0) g.0.1; entries = second_all (IsRegularEntry b) IsEntryInRange y.1 g.1.1 });
+  good = λ y g. (
+    first_all (IsRegularEntry b) IsEntryInRange y.1 g.1.1,
+    record { bound = g.0.0; number_of_entries = subst IsCount (sym g.1.0) g.0.1; entries = second_all (IsRegularEntry b) IsEntryInRange y.1 g.1.1 },
+  );
   text = λ y g. cert_made b y.0 y.1 g.1.0;
   back = λ x g. record {
     inner = (record { bound = x.bound; entries = length x.entries }, x.entries);
@@ -190,31 +176,36 @@ unfoldable pub routed_rest_as : (b : BoardParts) (h : RouteHead) → IsRouteHead
 routed_rest_as b h known = record {
   from = routed_from h;
   good = λ y g.
-    let few : IsCount h.made = let m = known.1 in let l = known.2 in omega arith in
-    ((record {
-      net = known.0;
-      made = first_all (IsRegularMade b) IsMadeInRange y.0 g.0.1;
-      rest = subst (λ (n : ℕ). IsRegularRest b h.missing n y.1) (sym g.0.0) g.1.0;
-    },
-    record {
-      missing = known.1;
-      number_of_made = subst IsCount (sym g.0.0) few;
-      made = second_all (IsRegularMade b) IsMadeInRange y.0 g.0.1;
-      rest = g.1.1;
-    }),
-    ap (λ (n : ℕ). let k : RouteHead = record { net = h.net; made = n; missing = h.missing } in k) g.0.0);
+      let few : IsCount h.made = let m = known.1 in let l = known.2 in omega arith in (
+        (
+          record {
+            net = known.0;
+            made = first_all (IsRegularMade b) IsMadeInRange y.0 g.0.1;
+            rest = subst (λ (n : ℕ). IsRegularRest b h.missing n y.1) (sym g.0.0) g.1.0;
+          },
+          record {
+            missing = known.1;
+            number_of_made = subst IsCount (sym g.0.0) few;
+            made = second_all (IsRegularMade b) IsMadeInRange y.0 g.0.1;
+            rest = g.1.1;
+          },
+        ),
+        ap (λ (n : ℕ). let k : RouteHead = record { net = h.net; made = n; missing = h.missing } in k) g.0.0,
+      );
   text = λ y g. refl;
   back = λ x g.
-    let number : length x.made ≡ h.made = ap (λ (k : RouteHead). k.made) g.1 in
-    let missing : x.missing ≡ h.missing = ap (λ (k : RouteHead). k.missing) g.1 in
-    let net : x.net ≡ h.net = ap (λ (k : RouteHead). k.net) g.1 in
-    let f : NetId → ℕ → Routed = λ n m. record { net = n; missing = m; made = x.made; none = x.none } in
-    record {
-      inner = (x.made, x.none);
-      good = ((number, both_all (IsRegularMade b) IsMadeInRange x.made g.0.0.made g.0.1.made),
-          (subst (λ (n : ℕ). IsRegularRest b h.missing n x.none) number (subst (λ (m : ℕ). IsRegularRest b m (length x.made) x.none) missing g.0.0.rest), g.0.1.rest));
-      made = ap (λ (n : NetId). f n h.missing) (sym net) ∙ ap (f x.net) (sym missing);
-    };
+      let number : length x.made ≡ h.made = ap (λ (k : RouteHead). k.made) g.1 in
+      let missing : x.missing ≡ h.missing = ap (λ (k : RouteHead). k.missing) g.1 in
+      let net : x.net ≡ h.net = ap (λ (k : RouteHead). k.net) g.1 in
+      let f : NetId → ℕ → Routed = λ n m. record { net = n; missing = m; made = x.made; none = x.none } in
+      record {
+        inner = (x.made, x.none);
+        good = (
+          (number, both_all (IsRegularMade b) IsMadeInRange x.made g.0.0.made g.0.1.made),
+          (subst (λ (n : ℕ). IsRegularRest b h.missing n x.none) number (subst (λ (m : ℕ). IsRegularRest b m (length x.made) x.none) missing g.0.0.rest), g.0.1.rest),
+        );
+        made = ap (λ (n : NetId). f n h.missing) (sym net) ∙ ap (f x.net) (sym missing);
+      };
 }
 
 -- what came of a net: its first line, and the rest

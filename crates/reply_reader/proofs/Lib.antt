@@ -7,3 +7,4 @@ pub mod Found
 pub mod Joining
 pub mod LineForms
 pub mod Standing
+pub mod Whole

@@ -1,15 +1,13 @@
 -- Lines and the words that they are made of.
-use Rattle.std.proofs.Common.{◌≡◌, ◌≢◌, ℕ, zero, suc, ◌+◌, ◌<◌, ◌≤◌, List, [], ◌∷◌, ◌++◌, length, get_or, take, drop, drop-cons, All, Err, Ok, ◌⊎◌, inl, inr, refl, sym, ap, ◌∙◌, subst, arith, append_assoc, length-append}
-use Rattle.std.specs.List.{flat_map, AllByRecursion as ByRecursion}
-use Rattle.std.proofs.lemmas.List.{append_cancel_left, append-nil, take-append-drop}
+use Rattle.std.proofs.Common.{◌≡◌, ◌≢◌, ℕ, suc, ◌+◌, ◌<◌, ◌≤◌, List, [], ◌∷◌, ◌++◌, length, get_or, take, drop, drop-cons, All, ◌⊎◌, inl, inr, refl, sym, ap, ◌∙◌, subst, arith, append_assoc, length-append}
+use Rattle.std.specs.List.{AllByRecursion as ByRecursion}
+use Rattle.std.proofs.lemmas.List.{append-nil, take-append-drop}
 use Rattle.std.proofs.lemmas.List.Elements.{All-append, All-from_recursion, recursion_from_All, All-nil, All-cons}
 use Rattle.std.proofs.lemmas.Grind.{flat_map-append}
 use Rattle.reply_reader.specs.declared.places.Place.{Place}
-use Rattle.reply_reader.specs.declared.readings.ReadReplies.{ReadReplies}
-use Rattle.reply_reader.specs.declared.readings.ReadReplies.TheVariants.{Refused, NoMemory}
-use Rattle.reply_reader.specs.Places.{Begins, IsOneLine, lines_text, IsWrongLine, StopsAt}
-use Rattle.reply_reader.specs.Parts.{Part, IsTextOf, IsOne, IsPassed, IsRefusedIn, IsRead, Tells}
-use Rattle.reply_reader.specs.Forms.{most_words, IsLineWord, spaced, AreWordsOf, HasGood, IsLineForm}
+use Rattle.reply_reader.specs.Places.{Begins, IsOneLine}
+use Rattle.reply_reader.specs.Parts.{Part, IsTextOf, IsOne, IsPassed, IsRefusedIn, IsRead}
+use Rattle.reply_reader.specs.Forms.{most_words, IsLineWord, spaced, AreWordsOf, IsLineForm}
 
 -- the bytes have not this byte
 abbrev pub HasNot : ℕ → List ℕ → Type 0
@@ -37,7 +35,7 @@ front_until c (x ∷ o) (y ∷ i) a b ho hi fa fb e =
 pub same_line : (l m u v : List ℕ) → IsOneLine l → IsOneLine m → l ++ 10 ∷ u ≡ m ++ 10 ∷ v → l ≡ m
 same_line l m u v hl hm e =
     let r : (l ≡ m) × (10 ∷ u ≡ 10 ∷ v) =
-      front_until 10 l m (10 ∷ u) (10 ∷ v) (recursion_from_All (λ x. x ≢ 10) l hl) (recursion_from_All (λ x. x ≢ 10) m hm) (inr (u, refl)) (inr (v, refl)) e in
+    front_until 10 l m (10 ∷ u) (10 ∷ v) (recursion_from_All (λ x. x ≢ 10) l hl) (recursion_from_All (λ x. x ≢ 10) m hm) (inr (u, refl)) (inr (v, refl)) e in
     r.0
 
 spaced_after : (words : List (List ℕ)) → IsAfter 32 (spaced words)
@@ -53,8 +51,8 @@ words_begin (o ∷ os) (i ∷ is) rest ho hi f e =
     let tail : o ++ spaced os ≡ (i ++ spaced is) ++ rest = cc in
     let behind : IsAfter 32 (spaced is ++ rest) = after_both is in
     let r : (o ≡ i) × (spaced os ≡ spaced is ++ rest) =
-      front_until 32 o i (spaced os) (spaced is ++ rest) (recursion_from_All (λ x. x ≢ 32) o ho.0) (recursion_from_All (λ x. x ≢ 32) i hi.0)
-      (spaced_after os) behind (tail ∙ append_assoc i (spaced is) rest) in
+    front_until 32 o i (spaced os) (spaced is ++ rest) (recursion_from_All (λ x. x ≢ 32) o ho.0) (recursion_from_All (λ x. x ≢ 32) i hi.0)
+    (spaced_after os) behind (tail ∙ append_assoc i (spaced is) rest) in
     let t : (ts : List (List ℕ)) × (os ≡ is ++ ts) × (spaced ts ≡ rest) = words_begin os is rest ho.1 hi.1 f r.1 in
     (t.0, ap (λ (w : List ℕ). w ∷ os) r.0 ∙ ap (λ (ws : List (List ℕ)). i ∷ ws) t.1, t.2)
   where
@@ -66,7 +64,7 @@ words_begin (o ∷ os) (i ∷ is) rest ho hi f e =
 pub same_words : (os is : List (List ℕ)) → All (HasNot 32) os → All (HasNot 32) is → spaced os ≡ spaced is → os ≡ is
 same_words os is ho hi e =
     let t : (ts : List (List ℕ)) × (os ≡ is ++ ts) × (spaced ts ≡ []) =
-      words_begin os is [] (recursion_from_All (HasNot 32) os ho) (recursion_from_All (HasNot 32) is hi) (inl refl) (e ∙ sym (append-nil (spaced is))) in
+    words_begin os is [] (recursion_from_All (HasNot 32) os ho) (recursion_from_All (HasNot 32) is hi) (inl refl) (e ∙ sym (append-nil (spaced is))) in
     none_more t.0 t.1 t.2
   where
     none_more : (ts : List (List ℕ)) → os ≡ is ++ ts → spaced ts ≡ [] → os ≡ is
@@ -103,7 +101,7 @@ words_full line rest ws hw long e = record {
     too_few : (os : List (List ℕ)) → All IsLineWord os → length os ≤ most_words → spaced os ≡ 32 ∷ line → ws ++ rest ∷ [] ≡ os
     too_few os clean few same =
         let t : (ts : List (List ℕ)) × (os ≡ ws ++ ts) × (spaced ts ≡ 32 ∷ rest) =
-          words_begin os ws (32 ∷ rest) (recursion_from_All (HasNot 32) os (All-HasNot os clean)) (recursion_from_All (HasNot 32) ws hw) (inr (rest, refl)) (same ∙ sym e) in
+        words_begin os ws (32 ∷ rest) (recursion_from_All (HasNot 32) os (All-HasNot os clean)) (recursion_from_All (HasNot 32) ws hw) (inr (rest, refl)) (same ∙ sym e) in
         more t.0 t.1 t.2
       where
         more : (ts : List (List ℕ)) → os ≡ ws ++ ts → spaced ts ≡ 32 ∷ rest → ws ++ rest ∷ [] ≡ os
@@ -137,8 +135,11 @@ module _ {X : Type 0} (p : Part X) (spelling : X → List (List ℕ)) (form : Is
 
   clean_line : (ws : List (List ℕ)) → ByRecursion IsLineWord ws → ByRecursion (λ x. x ≢ 10) (spaced ws)
   clean_line [] h = tt
-  clean_line (w ∷ ws) h = (λ e. absurd (omega arith), recursion_from_All (λ x. x ≢ 10) (w ++ spaced ws)
-      (All-append (λ x. x ≢ 10) w (spaced ws) (HasNot-word 10 w (omega arith) h.0) (All-from_recursion (λ x. x ≢ 10) (spaced ws) (clean_line ws h.1))))
+  clean_line (w ∷ ws) h = (
+    λ e. absurd (omega arith),
+    recursion_from_All (λ x. x ≢ 10) (w ++ spaced ws)
+        (All-append (λ x. x ≢ 10) w (spaced ws) (HasNot-word 10 w (omega arith) h.0) (All-from_recursion (λ x. x ≢ 10) (spaced ws) (clean_line ws h.1))),
+  )
 
   pub line_of : (x : X) → p.IsGood x → (l : List ℕ) × IsLineOf x l
   line_of x good = from (spelling x) (recursion_from_All IsLineWord (spelling x) (form.clean x good)) refl (form.spelled x good)
@@ -153,14 +154,16 @@ module _ {X : Type 0} (p : Part X) (spelling : X → List (List ℕ)) (form : Is
 
   -- a line spells one value at most
   pub one_line : IsOne p
-  one_line = record { same = λ x y u v gx gy e.
-    let lx : (l : List ℕ) × IsLineOf x l = line_of x gx in
-    let ly : (l : List ℕ) × IsLineOf y l = line_of y gy in
-    let joined : lx.0 ++ 10 ∷ u ≡ ly.0 ++ 10 ∷ v =
-      sym (append_assoc lx.0 (10 ∷ []) u) ∙ ap (λ (l : List ℕ). l ++ u) (sym lx.1.text) ∙ e ∙ ap (λ (l : List ℕ). l ++ v) ly.1.text ∙ append_assoc ly.0 (10 ∷ []) v in
-    let line : lx.0 ≡ ly.0 = same_line lx.0 ly.0 u v lx.1.one ly.1.one joined in
-    let words : spaced (spelling x) ≡ spaced (spelling y) = lx.1.words ∙ ap (λ (l : List ℕ). 32 ∷ l) line ∙ sym ly.1.words in
-    form.same x y gx gy (same_words (spelling x) (spelling y) (All-HasNot (spelling x) (form.clean x gx)) (All-HasNot (spelling y) (form.clean y gy)) words) }
+  one_line = record {
+    same = λ x y u v gx gy e.
+        let lx : (l : List ℕ) × IsLineOf x l = line_of x gx in
+        let ly : (l : List ℕ) × IsLineOf y l = line_of y gy in
+        let joined : lx.0 ++ 10 ∷ u ≡ ly.0 ++ 10 ∷ v =
+        sym (append_assoc lx.0 (10 ∷ []) u) ∙ ap (λ (l : List ℕ). l ++ u) (sym lx.1.text) ∙ e ∙ ap (λ (l : List ℕ). l ++ v) ly.1.text ∙ append_assoc ly.0 (10 ∷ []) v in
+        let line : lx.0 ≡ ly.0 = same_line lx.0 ly.0 u v lx.1.one ly.1.one joined in
+        let words : spaced (spelling x) ≡ spaced (spelling y) = lx.1.words ∙ ap (λ (l : List ℕ). 32 ∷ l) line ∙ sym ly.1.words in
+        form.same x y gx gy (same_words (spelling x) (spelling y) (All-HasNot (spelling x) (form.clean x gx)) (All-HasNot (spelling y) (form.clean y gy)) words);
+  }
 
   begun_by_none : Begins (IsTextOf p) []
   begun_by_none = record { rest = p.text form.some.value; text = record { value = form.some.value; good = form.some.good; is = refl } }
@@ -171,7 +174,7 @@ module _ {X : Type 0} (p : Part X) (spelling : X → List (List ℕ)) (form : Is
   spelled_there x good line after more words one cut e =
       let l : (l : List ℕ) × IsLineOf x l = line_of x good in
       let same : line ≡ l.0 = same_line line l.0 after more one l.1.one
-          (e ∙ ap (λ (t : List ℕ). t ++ more) l.1.text ∙ append_assoc l.0 (10 ∷ []) more) in
+      (e ∙ ap (λ (t : List ℕ). t ++ more) l.1.text ∙ append_assoc l.0 (10 ∷ []) more) in
       cut.only (spelling x) (form.clean x good) (form.few x good) (l.1.words ∙ ap (λ (t : List ℕ). 32 ∷ t) (sym same))
 
   -- the line is none of the form
@@ -195,7 +198,7 @@ module _ {X : Type 0} (p : Part X) (spelling : X → List (List ℕ)) (form : Is
         one = one;
         wrong = λ (g : Begins (IsTextOf p) (line ++ 10 ∷ [])). none g.text.value g.text.good
             (sym (spelled_there g.text.value g.text.good line g.rest [] words one cut
-              (sym (append_assoc line (10 ∷ []) g.rest) ∙ sym g.text.is ∙ sym (append-nil (p.text g.text.value)))));
+            (sym (append_assoc line (10 ∷ []) g.rest) ∙ sym g.text.is ∙ sym (append-nil (p.text g.text.value)))));
       });
     };
     number = refl;
@@ -205,9 +208,9 @@ module _ {X : Type 0} (p : Part X) (spelling : X → List (List ℕ)) (form : Is
   pub refused_end : (bytes : List ℕ) (n : ℕ) → IsOneLine bytes → IsRefusedIn (IsTextOf p) bytes n n
   refused_end bytes n one = record {
     none = λ text more t e.
-      let l : (l : List ℕ) × IsLineOf t.value l = line_of t.value t.good in
-      let cells : bytes ≡ l.0 ++ 10 ∷ more = e ∙ ap (λ (s : List ℕ). s ++ more) (sym t.is ∙ l.1.text) ∙ append_assoc l.0 (10 ∷ []) more in
-      feed_inside l.0 more (recursion_from_All (λ x. x ≢ 10) (l.0 ++ 10 ∷ more) (subst IsOneLine cells one));
+        let l : (l : List ℕ) × IsLineOf t.value l = line_of t.value t.good in
+        let cells : bytes ≡ l.0 ++ 10 ∷ more = e ∙ ap (λ (s : List ℕ). s ++ more) (sym t.is ∙ l.1.text) ∙ append_assoc l.0 (10 ∷ []) more in
+        feed_inside l.0 more (recursion_from_All (λ x. x ≢ 10) (l.0 ++ 10 ∷ more) (subst IsOneLine cells one));
     place = 1;
     stop = record {
       lines = [];

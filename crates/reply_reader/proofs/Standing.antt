@@ -1,10 +1,8 @@
 -- What a value says stands in the words that spell it.
-use Rattle.std.proofs.Common.{◌≡◌, ℕ, ◌+◌, ◌<◌, ◌≤◌, ◌^◌, List, [], ◌∷◌, ◌++◌, length, Option, Some, None, codes, decimal, refl, sym, ap, ◌∙◌, subst, arith}
+use Rattle.std.proofs.Common.{◌≡◌, ℕ, ◌+◌, List, Option, Some, None, decimal, refl, arith}
 use Rattle.std.specs.Fmt.{signed_decimal}
 use Rattle.std.proofs.lemmas.Int.{ints}
 use Rattle.board_model.specs.Known.{IsOwner}
-use Rattle.geo_rect.specs.declared.ids.ClassId.{ClassId}
-use Rattle.geo_rect.specs.declared.ids.KindId.{KindId}
 use Rattle.geo_rect.specs.declared.ids.Label.{Label}
 use Rattle.geo_rect.specs.declared.ids.Label.TheVariants.{Free, One, Many}
 use Rattle.geo_rect.specs.declared.ids.LayerId.{LayerId}
@@ -17,24 +15,22 @@ use Rattle.board_model.specs.declared.parts.BoardParts.{BoardParts}
 use Rattle.board_model.specs.declared.shapes.Owned.{Owned}
 use Rattle.board_model.specs.declared.shapes.Violation.{Violation}
 use Rattle.board_model.specs.declared.shapes.Violation.TheVariants.{Close, Outline}
-use Rattle.board_model.specs.Rules.{IsBoard, IsName, AreNames}
 use Rattle.plane_core.specs.declared.strips.Strip.{Strip}
 use Rattle.route_law.specs.declared.certs.Entry.{Entry}
 use Rattle.route_law.specs.declared.certs.Origin.{Origin}
 use Rattle.route_law.specs.declared.certs.Origin.TheVariants as origin
-use Rattle.route_law.specs.Regular.{IsLayerOf, IsKindOf, IsNetOf, IsFromZero, IsRegularNode, IsRegularLeg, IsRegularEntry, IsRegularOrigin, IsRegularViolation, IsRegularOwned, IsRegularStrip, IsRegularLabel}
-use Rattle.reply_text.specs.Texts.{layer_name, class_name, kind_name, net_name, bound_text}
+use Rattle.route_law.specs.Regular.{IsFromZero, IsRegularNode, IsRegularOrigin, IsRegularLabel}
+use Rattle.reply_text.specs.Texts.{layer_name}
 use Rattle.reply_reader.specs.declared.heads.CertHead.{CertHead}
 use Rattle.reply_reader.specs.declared.heads.ConnHead.{ConnHead}
 use Rattle.reply_reader.specs.declared.heads.Head.{Head}
 use Rattle.reply_reader.specs.declared.heads.Head.TheVariants as head
 use Rattle.reply_reader.specs.declared.heads.NoneHead.{NoneHead}
 use Rattle.reply_reader.specs.declared.heads.RouteHead.{RouteHead}
-use Rattle.reply_reader.specs.InRange.{IsCoordinate, IsCount, IsCost, IsAreaInRange, IsNodeInRange, IsLegInRange, IsOriginInRange, IsEntryInRange, IsBoundInRange, IsOwnedInRange, IsViolationInRange, IsStripInRange}
-use Rattle.reply_reader.specs.Fields.{IsForm, IsClassOf, IsCoordinateAt, IsAreaAt, IsNodeAt}
-use Rattle.reply_reader.specs.Forms.{word, IsLineWord, spaced, HasGood, IsLineForm}
-use Rattle.reply_reader.specs.Parts.{Part}
-use Rattle.reply_reader.specs.Said.{conn_head, conn_head_words, IsConnHeadAt, start, node_words, start_words, IsStartAt, leg_line, leg_words, IsWireAt, IsViaAt, IsLegAt, cert_head, cert_head_words, IsBoundAt, IsCertHeadAt, entry_line, area_words, entry_rest_words, origin_words, entry_words, origin_place, IsViaOriginAt, IsOriginOfAt, IsOriginAt, IsEntryRestAt, IsEntryAt, none_head, none_head_words, IsNoneHeadAt, IsRouteHead, route_head, route_head_words, IsNetAt, IsRouteHeadAt, IsHead, head_text, head_line, head_words, IsAllAt, IsRipAt, IsShowAt, IsRulesAt, IsStripsAt, IsHeadAt, violation_line, owner_words, owned_words, violation_words, owner_place, IsOwnerAt, IsOwnedAt, after_owned, IsCloseAt, IsOutlineAt, IsViolationAt, strip_line, label_words, strip_words, label_place, IsOneAt, IsLabelAt, IsStripAt}
+use Rattle.reply_reader.specs.InRange.{IsAreaInRange, IsNodeInRange, IsOriginInRange}
+use Rattle.reply_reader.specs.Fields.{IsAreaAt, IsNodeAt}
+use Rattle.reply_reader.specs.Forms.{word}
+use Rattle.reply_reader.specs.Said.{conn_head, conn_head_words, IsConnHeadAt, start, start_words, IsStartAt, leg_line, leg_words, IsLegAt, cert_head, cert_head_words, IsCertHeadAt, entry_line, entry_words, IsEntryRestAt, IsEntryAt, none_head, none_head_words, IsNoneHeadAt, IsRouteHead, route_head_words, IsRouteHeadAt, IsHead, head_words, IsHeadAt, violation_line, violation_words, IsCloseAt, IsOutlineAt, IsViolationAt, strip_line, strip_words, IsStripAt}
 
 node_at : (b : BoardParts) (ws : List (List ℕ)) (k : ℕ) (v : Node) → IsRegularNode b v → IsNodeInRange v
     → signed_decimal v.x ≡ word ws k → signed_decimal v.y ≡ word ws (k + 1) → layer_name b v.layer ≡ word ws (k + 2) → IsNodeAt b ws k v
@@ -184,7 +180,7 @@ close_stands b l o q g = from o.owner q.owner g.0.1.owner g.0.2.owner
   where
     from : (m n : Option NetId) → IsOwner b m → IsOwner b n
         → let p : Owned = record { owner = m; area = o.area } in let r : Owned = record { owner = n; area = q.area } in
-          IsCloseAt b (violation_words b (Close l p r)) l p r
+        IsCloseAt b (violation_words b (Close l p r)) l p r
     from None None gm gn =
         let p : Owned = record { owner = None; area = o.area } in
         let r : Owned = record { owner = None; area = q.area } in

@@ -1,6 +1,6 @@
 -- The numbers that a text of replies may hold: coordinates below 2^31, costs and bounds below 2^128, and
 -- all others below 2^64.
-use Rattle.std.specs.Prelude.{ℕ, ℤ, pos, ◌<◌, ◌^◌, ◌<ℤ◌, List, length, All, Option, Some, None, ⊤}
+use Rattle.std.specs.Prelude.{ℕ, ℤ, pos, ◌<◌, ◌^◌, ◌<ℤ◌, length, All, Option, Some, None, ⊤}
 use Rattle.geo_rect.specs.declared.ids.Node.{Node}
 use Rattle.geo_rect.specs.declared.shapes.Rect.{Rect}
 use Rattle.board_model.specs.declared.made.Conn.{Conn}

@@ -1,5 +1,5 @@
 -- The parts that a text is made of, and what a function answers that reads one of them.
-use Rattle.std.specs.Prelude.{◌≡◌, ℕ, ◌+◌, List, [], ◌++◌, length, drop, All, Result, Ok, Err}
+use Rattle.std.specs.Prelude.{◌≡◌, ℕ, ◌+◌, List, ◌++◌, length, drop, All, Result, Ok, Err}
 use Rattle.std.specs.List.{flat_map}
 use Rattle.reply_reader.specs.declared.readings.ReadReplies.{ReadReplies}
 use Rattle.reply_reader.specs.declared.readings.ReadReplies.TheVariants.{Refused, NoMemory}

@@ -9,6 +9,7 @@ mod conns;
 mod fields;
 mod first_lines;
 mod heads;
+mod laws;
 mod lines;
 mod parts;
 mod places;
@@ -17,4 +18,5 @@ mod readings;
 mod replies;
 mod words;
 
+pub use laws::texts_spell_one_list;
 pub use readings::{ReadReplies, read_replies};

@@ -11,7 +11,6 @@ pub struct Place {
 }
 
 impl Place {
-    #[tactic(auto, using(crate::proofs::Composing::passed_none))]
     /// Before the first line.
     pub fn first() -> Place
         ensures at { result.at ≡ 0 }

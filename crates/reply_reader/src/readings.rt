@@ -2,6 +2,8 @@ ghost use Rattle.std.specs.Prelude.{◌≡◌, IfOk, IfErr};
 ghost use Rattle.reply_reader.specs.Readings.{IsReadingOf, TellsRefusal};
 ghost use Rattle.reply_reader.specs.declared.readings.ReadReplies.TheVariants.{NoMemory};
 
+use crate::parts::Readable;
+use crate::places::Place;
 use board_model::Board;
 use geo_rect::{List, NoMemory};
 use route_law::Reply;
@@ -28,5 +30,11 @@ pub fn read_replies(alloc: Global, board: &Board, bytes: &[u8]) -> Result<List<R
     ensures ok { IfOk result (λ rs. IsReadingOf board.now.parts bytes.now rs) }
     ensures refused { IfErr result (λ e. TellsRefusal board.now.parts bytes.now e) }
 {
-    Err(ReadReplies::NoMemory)
+    let mut replies = List::new(alloc);
+    let mut place = Place::first();
+    while place.at < bytes.len() {
+        let reply = Reply::read(alloc, board, bytes, &mut place)?;
+        replies.push(reply)?;
+    }
+    Ok(replies)
 }

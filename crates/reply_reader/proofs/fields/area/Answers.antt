@@ -1,4 +1,4 @@
-use Rattle.std.proofs.Common.{◌≡◌, ℤ, ◌≤ℤ◌, ◌+◌, arith}
+use Rattle.std.proofs.Common.{◌≡◌, ◌≤ℤ◌, ◌+◌, arith}
 use Rattle.std.proofs.lemmas.Int.{ints}
 use Rattle.reply_reader.proofs.Decimals.{same_coordinate}
 use Rattle.reply_reader.proofs.fields.area.Goals as goal

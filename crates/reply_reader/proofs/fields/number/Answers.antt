@@ -1,6 +1,5 @@
-use Rattle.std.proofs.Common.{◌≡◌, ◌<◌, ◌≤◌, ◌^◌, ℕ, List, Ok, Err, sym, ◌∙◌, ap, decimal, subst, arith, IsTrue, false, rules}
+use Rattle.std.proofs.Common.{◌≡◌, ◌<◌, ◌^◌, Ok, Err, sym, ◌∙◌, ap, decimal, subst, arith, IsTrue, false, rules}
 use Rattle.std.specs.Str.{IsAscii}
-use Rattle.std.specs.Str.Parse.{ParsesUnsigned}
 use Rattle.std.proofs.lemmas.Fmt.{IsAscii-decimal_wide, parse-decimal_wide}
 use Rattle.reply_reader.proofs.Decimals.{not_decimal}
 use Rattle.reply_reader.proofs.fields.number.Goals as goal
@@ -15,7 +14,7 @@ returns-in_default-parse-clause-none c = λ n le is.
     let lt : n < 2 ^ 128 = omega (arith, c.ranges.most.fits) in
     let wide : n < 10 ^ 64 = omega (arith, c.ranges.most.fits) in
     let read : c.parse.result ≡ Ok n =
-      parse-decimal_wide 128 n c.in-Some.digits.now c.parse.result lt wide (c.in-Some.ensures.some ∙ sym is) c.parse.ensures.value.0 in
+    parse-decimal_wide 128 n c.in-Some.digits.now c.parse.result lt wide (c.in-Some.ensures.some ∙ sym is) c.parse.ensures.value.0 in
     let both : Err c.in_default-parse.field-0 ≡ Ok n = sym c.in_default-parse.is ∙ read in
     cc
 

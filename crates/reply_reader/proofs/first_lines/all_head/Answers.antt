@@ -1,4 +1,4 @@
-use Rattle.std.proofs.Common.{◌≡◌, ◌<◌, ◌^◌, ℕ, sym, ◌∙◌, arith}
+use Rattle.std.proofs.Common.{◌≡◌, ◌<◌, ◌^◌, sym, ◌∙◌, arith}
 use Rattle.reply_reader.proofs.Decimals.{same_decimal}
 use Rattle.reply_reader.proofs.first_lines.all_head.Goals as goal
 

@@ -1,4 +1,4 @@
-use Rattle.std.proofs.Common.{◌≡◌, ◌<◌, ◌^◌, ℕ, sym, ap, ◌∙◌, arith}
+use Rattle.std.proofs.Common.{◌≡◌, ◌<◌, ◌^◌, sym, ap, ◌∙◌, arith}
 use Rattle.route_law.specs.Routing.{conns_needed}
 use Rattle.reply_reader.proofs.Alike.{same_net}
 use Rattle.reply_reader.proofs.Decimals.{same_decimal}

@@ -1,4 +1,4 @@
-use Rattle.std.proofs.Common.{◌≡◌, List, ℕ, length, take, drop, ◌-◌, arith}
+use Rattle.std.proofs.Common.{◌≡◌, length, take, drop, ◌-◌, arith}
 use Rattle.std.proofs.lemmas.Grind.{common_steps}
 use Rattle.reply_reader.proofs.Composing.{passed_cut}
 use Rattle.reply_reader.proofs.lines.next_line.Goals as goal

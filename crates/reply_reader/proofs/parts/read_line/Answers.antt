@@ -1,5 +1,5 @@
 use Rattle.std.proofs.Common.{drop, [], ◌∷◌, ◌∙◌, append_assoc}
-use Rattle.reply_reader.proofs.LineForms.{refused_line, refused_end, read_of_line}
+use Rattle.reply_reader.proofs.LineForms.{refused_line, refused_end}
 use Rattle.reply_reader.proofs.parts.read_line.Goals as goal
 
 pub returns-in_default : goal.returns-in_default

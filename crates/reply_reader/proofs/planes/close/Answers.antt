@@ -1,5 +1,4 @@
 use Rattle.std.proofs.Common.{◌≡◌, ℕ, sym, ap, ◌∙◌, subst, arith}
-use Rattle.board_model.specs.declared.shapes.Owned.{Owned}
 use Rattle.reply_reader.specs.Said.{IsOwnedAt, after_owned}
 use Rattle.reply_reader.proofs.Alike.{same_owned_at}
 use Rattle.reply_reader.proofs.planes.close.Goals as goal
@@ -21,5 +20,5 @@ returns-then-len-after_owned-clause-none c = λ l o q at.
     let there : IsOwnedAt b ws c.after_owned-place.result q = subst (λ (k : ℕ). IsOwnedAt b ws k q) place at.second in
     let second : q ≡ c.in-Some.second = same_owned_at b c.args.board.now.kept ws c.after_owned-place.result q c.in-Some.second there c.in-Some.ensures.some in
     let long : c.len.result ≡ c.after_owned.result =
-      c.len.ensures ∙ at.long ∙ ap (λ (k : ℕ). after_owned k q) place ∙ ap (after_owned c.after_owned-place.result) second ∙ sym c.after_owned.ensures.value in
+    c.len.ensures ∙ at.long ∙ ap (λ (k : ℕ). after_owned k q) place ∙ ap (after_owned c.after_owned-place.result) second ∙ sym c.after_owned.ensures.value in
     absurd (omega (arith, long, c.if-len-after_owned.true))

@@ -1,7 +1,6 @@
-use Rattle.std.proofs.Common.{◌≡◌, ◌∷◌, [], ◌++◌, List, ℕ, All, length, map, arith, length-append, rules}
+use Rattle.std.proofs.Common.{◌≡◌, ◌∷◌, [], List, ℕ, length, map, arith, length-append}
 use Rattle.std.proofs.lemmas.List.{map_push}
 use Rattle.std.proofs.lemmas.List.Elements.{All-append, All-nil, All-cons}
-use Rattle.reply_reader.specs.Forms.{spaced, AreWordsOf}
 use Rattle.reply_reader.proofs.LineForms.{HasNot, words_done, words_full, cut_word}
 use Rattle.reply_reader.proofs.words.Words.of.Goals as goal
 

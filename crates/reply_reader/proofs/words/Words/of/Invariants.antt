@@ -1,4 +1,4 @@
-use Rattle.std.proofs.Common.{◌≡◌, ◌≢◌, ◌∷◌, ◌++◌, All, length, map}
+use Rattle.std.proofs.Common.{◌≡◌, ◌∷◌, ◌++◌, All, length, map}
 use Rattle.reply_reader.specs.Forms.{spaced}
 use Rattle.reply_reader.proofs.LineForms.{HasNot}
 use Rattle.reply_reader.proofs.words.Words.of.Given as goal
