@@ -1,0 +1,12 @@
+//! Tiles that fill a rectangle and are linked by stitches, and the walks over them: to a point, along
+//! a side, over an area. Corner stitching is after J. K. Ousterhout, 1984.
+//!
+//! All coordinates are whole micrometres.
+#![tactic(auto)]
+
+mod ids;
+mod stitches;
+mod tilings;
+
+pub use ids::Ids;
+pub use tilings::Tiling;
