@@ -1,1 +1,4 @@
 pub mod Linked
+pub mod Facing
+pub mod Pairs
+pub mod Walking

@@ -17,11 +17,13 @@ side_of (suc zero) = Below
 side_of (suc (suc zero)) = Right
 side_of (suc (suc (suc _))) = Above
 
--- the tile under the number has a point one step past the edge of r on this side
-pub record IsNeighbour (s : Store) (side : Side) (r : Rect) (id : TileId) : Type 0 where
+-- the tile under j has a point one step past the edge on this side of the tile under i
+pub record IsNeighbour (s : Store) (side : Side) (i j : TileId) : Type 0 where
   pub tile : Tile
-  pub is_there : tile_at s id ≡ Some tile
-  pub beside : IsBeside side r tile.area
+  pub is_there : tile_at s i ≡ Some tile
+  pub neighbour : Tile
+  pub neighbour_is_there : tile_at s j ≡ Some neighbour
+  pub beside : IsBeside side tile.area neighbour.area
 
 -- with the side turned to the left, the tile under i ends below the row in which that under j begins:
 -- on the left side this is upwards, below to the right, on the right side downwards, above to the left
@@ -32,10 +34,10 @@ pub record ComesBefore (s : Store) (side : Side) (i j : TileId) : Type 0 where
   pub second_is : tile_at s j ≡ Some second
   pub ends_before : (turned side first.area).y1 <ℤ (turned side second.area).y0
 
--- found lists exactly the neighbours of the tile on this side, each once, in the order of the walk
-pub record AreNeighbours (s : Store) (side : Side) (t : Tile) (found : List TileId) : Type 0 where
-  pub listed : (id : TileId) → Contains found id → IsNeighbour s side t.area id
-  pub complete : (id : TileId) → IsNeighbour s side t.area id → Contains found id
+-- found lists exactly the neighbours of the tile under id on this side, each once, in the order of the walk
+pub record AreNeighbours (s : Store) (side : Side) (id : TileId) (found : List TileId) : Type 0 where
+  pub listed : (j : TileId) → Contains found j → IsNeighbour s side id j
+  pub complete : (j : TileId) → IsNeighbour s side id j → Contains found j
   pub once : AllPairs (λ i j. i ≢ j) found
   pub in_order : AllPairs (ComesBefore s side) found
 
