@@ -16,7 +16,7 @@ use Rattle.tile_store.specs.declared.tiles.Tile.{Tile}
 use Rattle.tile_store.specs.declared.tiles.TileId.{TileId}
 use Rattle.tile_store.specs.Store.{Store, tile_at}
 use Rattle.stitch_walk.specs.Links.{Holds, stitch, stitch_point, LeadsTo, IsLinked}
-use Rattle.stitch_walk.specs.Walks.{following, HoldsTurned, LeadsToTurned, left_of}
+use Rattle.stitch_walk.proofs.WalkState.{following, HoldsTurned, LeadsToTurned, left_of}
 use Rattle.stitch_walk.proofs.Linked.{one_tile}
 
 pub same_point : (p q : Point) → p.x ≡ q.x → p.y ≡ q.y → p ≡ q
@@ -98,8 +98,8 @@ module _ (s : Store) (domain : Rect) (is : IsLinked s domain) (side : Side) wher
           let q : Point = record { x = (turned side t.area).x0; y = y } in
           let low : (turned side u.area).x0 ≤ℤ (turned side t.area).x0 = let a = h.across.from in omega (arith, ints) in
           let same : i ≡ j = apart_turned i j q
-              (record { tile = t; is_there = e; has_point = record { across = low_in (columns (turned side t.area)); up = row } })
-              (record { tile = u; is_there = f; has_point = record { across = record { from = low; to = more }; up = h.up } }) in
+          (record { tile = t; is_there = e; has_point = record { across = low_in (columns (turned side t.area)); up = row } })
+          (record { tile = u; is_there = f; has_point = record { across = record { from = low; to = more }; up = h.up } }) in
           let there : tile_at s i ≡ Some u = let P : TileId → Type 0 = λ k. tile_at s k ≡ Some u in subst P (sym same) f in
           let one : u ≡ t = one_tile s i u t there e in
           let Q : Tile → Type 0 = λ v. HasPoint (turned side v.area) (left_of side t.area y) in

@@ -6,12 +6,12 @@ use Rattle.std.proofs.lemmas.Bool.{cases_eq}
 use Rattle.geo_rect.specs.declared.shapes.Interval.{Interval}
 use Rattle.geo_rect.specs.declared.shapes.Point.{Point}
 use Rattle.geo_rect.specs.declared.shapes.Rect.{Rect}
-use Rattle.geo_rect.specs.Axis.{HasNumber}
+use Rattle.geo_rect.specs.Axis.{HasNumber, LiesWithin}
 use Rattle.geo_rect.specs.Plane.{columns, rows, HasPoint, LiesIn}
 use Rattle.geo_rect.proofs.Parts.{low_in, high_in, lies_in_from}
 use Rattle.plane_core.specs.declared.sides.Side.{Side}
 use Rattle.plane_core.specs.declared.sides.Side.TheVariants.{Left, Below, Right, Above}
-use Rattle.plane_core.specs.Labels.{IsSmall}
+use Rattle.plane_core.specs.Labels.{IsSmall, IsWithinReach}
 use Rattle.tile_store.specs.declared.tiles.Tile.{Tile}
 use Rattle.tile_store.specs.declared.tiles.TileId.{TileId}
 use Rattle.tile_store.specs.Store.{Store, tile_at, IsPresent, ChangesAt, HasNoTile, HasSameTiles}
@@ -116,3 +116,20 @@ pub not_empty : (s : Store) (domain : Rect) → IsTiling s domain → HasNoTile 
 not_empty s domain is none =
     let held = is.linked.covered (corner domain) (has_corner domain) in
     some_is_not_none held.holds.tile (sym held.holds.is_there ∙ none held.by)
+
+small_along : (i j : Interval) → LiesWithin i j → IsWithinReach j → IsWithinReach i
+small_along i j w r =
+    let a = w.from in
+    let b = w.to in
+    let c = r.from in
+    let d = r.to in
+    record { from = omega (arith, ints); to = omega (arith, ints) }
+
+-- the coordinates of each tile are small
+pub small_tile : (s : Store) (domain : Rect) (id : TileId) (t : Tile) → IsTiling s domain → tile_at s id ≡ Some t → IsSmall t.area
+small_tile s domain id t is e =
+    let w = is.linked.inside id t e in
+    record {
+      across = small_along (columns t.area) (columns domain) w.across is.small.across;
+      up = small_along (rows t.area) (rows domain) w.up is.small.up;
+    }

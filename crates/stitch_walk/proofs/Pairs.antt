@@ -15,6 +15,7 @@ module _ {X : Type 0} (R : X → X → Type 0) where
     where
       split : (a n : ℕ) → a < n + 1 → (a < n) ⊎ (a ≡ n)
       split a n h = grind arith
+
       at_end : i < length xs → R (get_or (xs ++ x ∷ []) i d) x
       at_end h =
           let e : get_or (xs ++ x ∷ []) i d ≡ get_or xs i d = get_or-append xs (x ∷ []) d i h in
@@ -25,6 +26,7 @@ module _ {X : Type 0} (R : X → X → Type 0) where
           default_free [] k e h = let l : k < 0 = h in absurd (omega arith)
           default_free (y ∷ ys) zero e h = refl
           default_free (y ∷ ys) (suc k) e h = default_free ys k e (omega arith)
+
       by_place : (j < length xs) ⊎ (j ≡ length xs) → R (get_or (xs ++ x ∷ []) i d) (get_or (xs ++ x ∷ []) j d)
       by_place (inl h) =
           let e : get_or (xs ++ x ∷ []) i d ≡ get_or xs i d = get_or-append xs (x ∷ []) d i (omega arith) in

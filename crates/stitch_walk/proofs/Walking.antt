@@ -1,7 +1,8 @@
 -- A walk along a side: where it starts, one step of it, and what it has found at its end.
-use Rattle.std.proofs.Common.{ℕ, ℤ, pos, ◌≡◌, ◌≢◌, ◌⊎◌, inl, inr, ◌+ℤ◌, ◌-ℤ◌, ◌≤ℤ◌, ◌<ℤ◌, Some, None, List, [], ◌∷◌, ◌++◌, Contains, AllPairs, refl, sym, subst, ap, ◌∙◌, arith}
+use Rattle.std.proofs.Common.{ℕ, ◌+◌, ◌<◌, length, IsSome, ℤ, pos, ◌≡◌, ◌≢◌, ◌⊎◌, inl, inr, ◌+ℤ◌, ◌-ℤ◌, ◌≤ℤ◌, ◌<ℤ◌, Some, None, List, [], ◌∷◌, ◌++◌, Contains, AllPairs, refl, sym, subst, ap, ◌∙◌, arith}
 use Rattle.std.specs.declared.option.Option.{Option}
-use Rattle.std.proofs.lemmas.Int.{ints, by_lt_z}
+use Rattle.std.proofs.lemmas.Int.{ints, clamps, by_lt_z}
+use Rattle.std.proofs.lemmas.List.{length-append}
 use Rattle.std.proofs.lemmas.List.Elements.{Contains-append_left, Contains-append_right}
 use Rattle.geo_rect.specs.declared.shapes.Interval.{Interval}
 use Rattle.geo_rect.specs.declared.shapes.Point.{Point}
@@ -14,10 +15,10 @@ use Rattle.plane_core.specs.Sides.{turned, IsBeside}
 use Rattle.plane_core.proofs.Members.{has_head, has_none}
 use Rattle.tile_store.specs.declared.tiles.Tile.{Tile}
 use Rattle.tile_store.specs.declared.tiles.TileId.{TileId}
-use Rattle.tile_store.specs.Store.{Store, tile_at}
-use Rattle.stitch_walk.specs.Links.{stitch, IsLinked}
+use Rattle.tile_store.specs.Store.{Store, tile_at, IsPresent}
+use Rattle.stitch_walk.specs.Links.{stitch, IsLinked, IsTiling, Tiles}
 use Rattle.stitch_walk.specs.Neighbours.{IsNeighbour, ComesBefore, AreNeighbours}
-use Rattle.stitch_walk.specs.Walks.{following, HoldsTurned, LeadsToTurned, left_of, EndsBelow, IsFound, HasComeTo}
+use Rattle.stitch_walk.proofs.WalkState.{following, HoldsTurned, LeadsToTurned, left_of, EndsBelow, IsFound, HasComeTo, IsWalking, rows_left}
 use Rattle.stitch_walk.proofs.Facing.{same_point, apart_turned, inside_turned, first_leads, next_leads, ends_left, over}
 use Rattle.stitch_walk.proofs.Linked.{one_tile}
 use Rattle.stitch_walk.proofs.Pairs.{pairs_none, pairs_added, last_cases}
@@ -90,14 +91,14 @@ module _ (s : Store) (domain : Rect) (is : IsLinked s domain) (side : Side) (id 
             let Q : Tile → Type 0 = λ v. IsBeside side n.tile.area v.area in
             let beside : IsBeside side t.area e.tile.area = subst P same_t (subst Q same_k n.beside) in
             let column : HasNumber (columns (turned side e.tile.area)) ((turned side t.area).x0 -ℤ pos 1) =
-                let R : ℤ → Type 0 = λ v. HasNumber (columns (turned side e.tile.area)) v in
-                subst R beside.past_edge beside.in_first.across in
+            let R : ℤ → Type 0 = λ v. HasNumber (columns (turned side e.tile.area)) v in
+            subst R beside.past_edge beside.in_first.across in
             let low = has_left.up.to in
             let end = e.ends in
             let rise : (turned side e.tile.area).y1 ≤ℤ (turned side u.area).y1 = omega (arith, ints) in
             let same : k ≡ j = apart_turned s domain is side k j q
-                (record { tile = e.tile; is_there = e.is_there; has_point = record { across = column; up = high_in (rows (turned side e.tile.area)) } })
-                (record { tile = u; is_there = there; has_point = record { across = has_left.across; up = record { from = over_it; to = rise } } }) in
+            (record { tile = e.tile; is_there = e.is_there; has_point = record { across = column; up = high_in (rows (turned side e.tile.area)) } })
+            (record { tile = u; is_there = there; has_point = record { across = has_left.across; up = record { from = over_it; to = rise } } }) in
             let S : TileId → Type 0 = λ i. tile_at s i ≡ Some u in
             let one : u ≡ e.tile = one_tile s k u e.tile (subst S (sym same) there) e.is_there in
             let T : Tile → Type 0 = λ v. row ≤ℤ (turned side v.area).y1 in
@@ -115,16 +116,16 @@ module _ (s : Store) (domain : Rect) (is : IsLinked s domain) (side : Side) (id 
     held_here y h k less =
         by_lt_z y row
         (λ (lower : y <ℤ row).
-            let f = come.complete y h k lower in
-            record { by = f.by; is_listed = Contains-append_left found (j ∷ []) f.by f.is_listed; holds = f.holds })
+        let f = come.complete y h k lower in
+        record { by = f.by; is_listed = Contains-append_left found (j ∷ []) f.by f.is_listed; holds = f.holds })
         (λ (higher : row ≤ℤ y).
-            let a = has_left.up.from in
-            let up : HasNumber (rows (turned side u.area)) y = record { from = omega (arith, ints); to = omega (arith, ints) } in
-            record {
-              by = j;
-              is_listed = Contains-append_right found (j ∷ []) j (has_head j []);
-              holds = record { tile = u; is_there = there; has_point = record { across = has_left.across; up = up } };
-            })
+        let a = has_left.up.from in
+        let up : HasNumber (rows (turned side u.area)) y = record { from = omega (arith, ints); to = omega (arith, ints) } in
+        record {
+          by = j;
+          is_listed = Contains-append_right found (j ∷ []) j (has_head j []);
+          holds = record { tile = u; is_there = there; has_point = record { across = has_left.across; up = up } };
+        })
 
     pub walk_steps : (row' : ℤ) → row' ≡ (turned side u.area).y1 +ℤ pos 1 → HasComeTo s domain side id t.area (found ++ j ∷ []) row' (stitch (following side) u)
     unfolding reached
@@ -171,7 +172,7 @@ module _ (s : Store) (domain : Rect) (is : IsLinked s domain) (side : Side) (id 
           let f = come.complete beside.at.y beside.in_row within (low beside.at.y beside.in_row within) in
           let same : f.by ≡ j = apart_turned s domain is side f.by j (left_of side t.area beside.at.y) f.holds (record { tile = n.neighbour; is_there = n.neighbour_is_there; has_point = has }) in
           let R : TileId → Type 0 = λ k. Contains found k in
-          subst R same f.is_listed;
+          subst R {x = f.by} same f.is_listed;
       once = λ i j d less within. before_differs _ _ (come.in_order i j d less within);
       in_order = come.in_order;
     }
@@ -187,3 +188,63 @@ module _ (s : Store) (domain : Rect) (is : IsLinked s domain) (side : Side) (id 
         let q : Point = record { x = (turned side t.area).x0; y = row } in
         let within = inside_turned s domain is side id t q here (record { across = low_in (columns (turned side t.area)); up = in_row }) in
         all_found (λ y h k. absurd (outside (record { across = k.across; up = within.up })))
+
+-- the same for the state of a walk as the code keeps it
+pub walking_starts : (tiles : Tiles) (side : Side) (id : TileId) (t : Tile) (edge : Interval) (found : List TileId) (row : ℤ) (before now : ℕ) → IsTiling tiles.store tiles.domain → tile_at tiles.store id ≡ Some t → edge ≡ rows (turned side t.area) → row ≡ edge.low → found ≡ [] → now ≡ before + 1 → IsWalking tiles side id edge found row (stitch side t) before now
+walking_starts tiles side id t edge found row before now is here e at_low none count =
+    let P : List TileId → Type 0 = λ l. HasComeTo tiles.store tiles.domain side id t.area l row (stitch side t) in
+    let Q : ℤ → Type 0 = λ v. HasComeTo tiles.store tiles.domain side id t.area [] v (stitch side t) in
+    let low : row ≡ (turned side t.area).y0 = at_low ∙ ap (λ (i : Interval). i.low) e in
+    record {
+      tile = t;
+      is_there = here;
+      edge_is = e;
+      come = subst P (sym none) (subst Q (sym low) (walk_starts tiles.store tiles.domain is.linked side id t here));
+      counted = let n : length found ≡ 0 = ap (λ (l : List TileId). length l) none in omega arith;
+    }
+
+module _ (tiles : Tiles) (side : Side) (id : TileId) (edge : Interval) (found : List TileId) (row : ℤ) (next : Option TileId) (before now : ℕ) (is : IsTiling tiles.store tiles.domain) (walking : IsWalking tiles side id edge found row next before now) where
+  last_row : (turned side walking.tile.area).y1 ≡ edge.high
+  last_row = ap (λ (i : Interval). i.high) (sym walking.edge_is)
+
+  come_to : (j : TileId) → next ≡ Some j → HasComeTo tiles.store tiles.domain side id walking.tile.area found row (Some j)
+  come_to j e = let P : Option TileId → Type 0 = λ o. HasComeTo tiles.store tiles.domain side id walking.tile.area found row o in subst P e walking.come
+
+  not_past : row ≤ℤ edge.high → row ≤ℤ (turned side walking.tile.area).y1
+  not_past more = let l = last_row in omega (arith, ints)
+
+  -- the tile that a walk names next is there
+  pub next_is_there : (j : TileId) → next ≡ Some j → row ≤ℤ edge.high → IsPresent tiles.store j
+  next_is_there j e more =
+      let h = (come_to j e).onward (not_past more) in
+      let P : Option Tile → Type 0 = λ o. IsSome o in
+      subst P (sym h.is_there) refl
+
+  pub row_rises : (j : TileId) (u : Tile) (row' : ℤ) → tile_at tiles.store j ≡ Some u → next ≡ Some j → row ≤ℤ edge.high → row' ≡ (turned side u.area).y1 +ℤ pos 1 → row <ℤ row'
+  unfolding reached
+  row_rises j u row' there e more f =
+      let p = past tiles.store tiles.domain is.linked side id walking.tile walking.is_there found row j u there (come_to j e) (not_past more) in
+      omega (arith, ints)
+
+  pub rows_left_fall : (row' : ℤ) → row ≤ℤ edge.high → row <ℤ row' → rows_left edge.high row' < rows_left edge.high row
+  rows_left_fall row' more rise = omega (arith, ints, clamps)
+
+  pub walking_steps : (j : TileId) (u : Tile) (found' : List TileId) (row' : ℤ) (now' : ℕ) → tile_at tiles.store j ≡ Some u → next ≡ Some j → row ≤ℤ edge.high → row' ≡ (turned side u.area).y1 +ℤ pos 1 → found' ≡ found ++ j ∷ [] → now' ≡ now + 1 → IsWalking tiles side id edge found' row' (stitch (following side) u) before now'
+  walking_steps j u found' row' now' there e more f added count =
+      let P : List TileId → Type 0 = λ l. HasComeTo tiles.store tiles.domain side id walking.tile.area l row' (stitch (following side) u) in
+      record {
+        tile = walking.tile;
+        is_there = walking.is_there;
+        edge_is = walking.edge_is;
+        come = subst P (sym added) (walk_steps tiles.store tiles.domain is.linked side id walking.tile walking.is_there found row j u there (come_to j e) (not_past more) row' f);
+        counted =
+            let n : length found' ≡ length found + 1 = ap (λ (l : List TileId). length l) added ∙ simp length-append in
+            let c = walking.counted in
+            omega arith;
+      }
+
+  pub walking_ends_past : edge.high <ℤ row → AreNeighbours tiles.store side id found
+  walking_ends_past past_end = walk_ends_past tiles.store tiles.domain is.linked side id walking.tile walking.is_there found row next walking.come (let l = last_row in omega (arith, ints))
+
+  pub walking_ends_outside : next ≡ None → row ≤ℤ edge.high → AreNeighbours tiles.store side id found
+  walking_ends_outside none more = walk_ends_outside tiles.store tiles.domain is.linked side id walking.tile walking.is_there found row next walking.come none (not_past more)

@@ -7,6 +7,7 @@
 mod ids;
 mod stitches;
 mod tilings;
+mod walks;
 
 pub use ids::Ids;
 pub use tilings::Tiling;

@@ -1,8 +1,6 @@
 //! The stitches of a tile by their side.
 ghost use Rattle.std.specs.Prelude.{◌≡◌};
 ghost use Rattle.stitch_walk.specs.Links.{stitch};
-ghost use Rattle.stitch_walk.specs.Neighbours.{side_of, AreNeighbours, AreMeeting};
-ghost use Rattle.stitch_walk.specs.Walks.{HasComeTo};
 
 use plane_core::Side;
 use tile_store::{Tile, TileId};

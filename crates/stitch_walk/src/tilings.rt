@@ -65,8 +65,10 @@ impl Tiling {
         requires { IsPresent self.now.store id }
         ensures tile { tile_at self.now.store id ≡ Some result }
         ensures counted { steps.new ≡ steps.old + 1 }
+        ensures small { IsSmall result.area }
         ensures tiling { IsTiling self.now.store self.now.domain }
     {
+        let _domain = self.domain;
         self.store.read(id, steps)
     }
 

@@ -1,6 +1,9 @@
 -- How far a walk along a side of a tile has come, with that side turned to the left, so that the walk
 -- goes upwards in the column left of the tile.
-use Rattle.std.specs.Prelude.{ℤ, pos, ◌≡◌, ◌+ℤ◌, ◌-ℤ◌, ◌≤ℤ◌, ◌<ℤ◌, List, Contains, AllPairs, Option, Some, None}
+use Rattle.std.specs.Prelude.{ℕ, ◌+◌, length, ℤ, pos, ◌≡◌, ◌+ℤ◌, ◌-ℤ◌, ◌≤ℤ◌, ◌<ℤ◌, List, Contains, AllPairs, Option, Some, None}
+use Rattle.std.specs.Int.{int_max}
+use Rattle.std.specs.Int.RustNames.{unsigned_abs}
+use Rattle.geo_rect.specs.declared.shapes.Interval.{Interval}
 use Rattle.geo_rect.specs.declared.shapes.Point.{Point}
 use Rattle.geo_rect.specs.declared.shapes.Rect.{Rect}
 use Rattle.geo_rect.specs.Axis.{HasNumber}
@@ -11,6 +14,7 @@ use Rattle.plane_core.specs.Sides.{turned}
 use Rattle.tile_store.specs.declared.tiles.Tile.{Tile}
 use Rattle.tile_store.specs.declared.tiles.TileId.{TileId}
 use Rattle.tile_store.specs.Store.{Store, tile_at}
+use Rattle.stitch_walk.specs.Links.{Tiles}
 use Rattle.stitch_walk.specs.Neighbours.{IsNeighbour, ComesBefore}
 
 -- the side of the stitch that leads from one neighbour on a side to the next
@@ -55,3 +59,15 @@ pub record HasComeTo (s : Store) (domain : Rect) (side : Side) (id : TileId) (r 
   pub complete : (y : ℤ) → HasNumber (rows (turned side r)) y → HasPoint (turned side domain) (left_of side r y) → y <ℤ row → IsFound s side found (left_of side r y)
   pub in_order : AllPairs (ComesBefore s side) found
   pub onward : row ≤ℤ (turned side r).y1 → LeadsToTurned s domain side (left_of side r row) next
+
+-- what is left of a walk that ends at the row last, when it has come to this row
+abbrev pub rows_left : ℤ → ℤ → ℕ
+rows_left last row = unsigned_abs (int_max ((last +ℤ pos 1) -ℤ row) (pos 0))
+
+-- the walk along the tile under id has come to this row, and the tile and those found were counted
+pub record IsWalking (tiles : Tiles) (side : Side) (id : TileId) (edge : Interval) (found : List TileId) (row : ℤ) (next : Option TileId) (before now : ℕ) : Type 0 where
+  pub tile : Tile
+  pub is_there : tile_at tiles.store id ≡ Some tile
+  pub edge_is : edge ≡ rows (turned side tile.area)
+  pub come : HasComeTo tiles.store tiles.domain side id tile.area found row next
+  pub counted : now ≡ before + length found + 1
