@@ -16,7 +16,8 @@ use Rattle.tile_store.specs.declared.tiles.Tile.{Tile}
 use Rattle.tile_store.specs.declared.tiles.TileId.{TileId}
 use Rattle.tile_store.specs.Store.{Store, tile_at}
 use Rattle.stitch_walk.specs.Links.{Holds, stitch, stitch_point, LeadsTo, IsLinked}
-use Rattle.stitch_walk.proofs.WalkState.{following, HoldsTurned, LeadsToTurned, left_of}
+use Rattle.stitch_walk.specs.Reaches.{following}
+use Rattle.stitch_walk.proofs.WalkState.{HoldsTurned, LeadsToTurned, left_of}
 use Rattle.stitch_walk.proofs.Linked.{one_tile}
 
 pub same_point : (p q : Point) → p.x ≡ q.x → p.y ≡ q.y → p ≡ q
@@ -37,7 +38,7 @@ turned_back side r q h =
     (points_turn side r (turned_point side q)).1 (subst P (sym (turned_twice side q)) h)
 
 -- the point of the stitch on a side lies left of the lowest row of the turned rectangle
-stitch_starts : (side : Side) (r : Rect) → turned_point side (stitch_point side r) ≡ left_of side r (turned side r).y0
+pub stitch_starts : (side : Side) (r : Rect) → turned_point side (stitch_point side r) ≡ left_of side r (turned side r).y0
 stitch_starts Left r = refl
 stitch_starts Below r = refl
 stitch_starts Right r = same_point _ _ (omega (arith, ints)) (omega (arith, ints))
@@ -48,7 +49,7 @@ abbrev pub over : Side → Rect → Point
 over side r = record { x = (turned side r).x1; y = (turned side r).y1 +ℤ pos 1 }
 
 -- the point of the following stitch lies above the last column of the turned rectangle
-stitch_follows : (side : Side) (r : Rect) → turned_point side (stitch_point (following side) r) ≡ over side r
+pub stitch_follows : (side : Side) (r : Rect) → turned_point side (stitch_point (following side) r) ≡ over side r
 stitch_follows Left r = refl
 stitch_follows Below r = refl
 stitch_follows Right r = same_point _ _ (omega (arith, ints)) (omega (arith, ints))

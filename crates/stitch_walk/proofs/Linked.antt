@@ -15,7 +15,7 @@ use Rattle.plane_core.specs.Labels.{IsSmall, IsWithinReach}
 use Rattle.tile_store.specs.declared.tiles.Tile.{Tile}
 use Rattle.tile_store.specs.declared.tiles.TileId.{TileId}
 use Rattle.tile_store.specs.Store.{Store, tile_at, IsPresent, ChangesAt, HasNoTile, HasSameTiles}
-use Rattle.stitch_walk.specs.Links.{Holds, stitch, stitch_point, LeadsTo, IsHeld, IsLinked, IsTiling, IsOnlyTile, whole_tile}
+use Rattle.stitch_walk.specs.Links.{Holds, stitch, stitch_point, LeadsTo, IsHeld, IsLinked, IsTiling, IsOnlyTile, Tiles, whole_tile}
 
 -- an option that holds something is not none
 some_is_not_none : (t : Tile) → Some t ≡ None → ⊥
@@ -133,3 +133,7 @@ small_tile s domain id t is e =
       across = small_along (columns t.area) (columns domain) w.across is.small.across;
       up = small_along (rows t.area) (rows domain) w.up is.small.up;
     }
+
+-- what a tiling keeps of its fields it keeps of the value that contracts see
+pub tiling_now : (s : Store) (domain : Rect) (v : Tiles) → record { store = s; domain = domain } ≡ v → IsTiling s domain → IsTiling v.store v.domain
+tiling_now s domain v e is = let P : Tiles → Type 0 = λ t. IsTiling t.store t.domain in subst P e is

@@ -9,20 +9,12 @@ use Rattle.geo_rect.specs.declared.shapes.Rect.{Rect}
 use Rattle.geo_rect.specs.Axis.{HasNumber}
 use Rattle.geo_rect.specs.Plane.{HasPoint, rows}
 use Rattle.plane_core.specs.declared.sides.Side.{Side}
-use Rattle.plane_core.specs.declared.sides.Side.TheVariants.{Left, Below, Right, Above}
 use Rattle.plane_core.specs.Sides.{turned}
 use Rattle.tile_store.specs.declared.tiles.Tile.{Tile}
 use Rattle.tile_store.specs.declared.tiles.TileId.{TileId}
 use Rattle.tile_store.specs.Store.{Store, tile_at}
 use Rattle.stitch_walk.specs.Links.{Tiles}
 use Rattle.stitch_walk.specs.Neighbours.{IsNeighbour, ComesBefore}
-
--- the side of the stitch that leads from one neighbour on a side to the next
-abbrev pub following : Side → Side
-following Left = Above
-following Below = Right
-following Right = Below
-following Above = Left
 
 -- the tile under the number has the turned point
 pub record HoldsTurned (s : Store) (side : Side) (id : TileId) (q : Point) : Type 0 where

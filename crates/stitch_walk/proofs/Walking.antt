@@ -18,7 +18,8 @@ use Rattle.tile_store.specs.declared.tiles.TileId.{TileId}
 use Rattle.tile_store.specs.Store.{Store, tile_at, IsPresent}
 use Rattle.stitch_walk.specs.Links.{stitch, IsLinked, IsTiling, Tiles}
 use Rattle.stitch_walk.specs.Neighbours.{IsNeighbour, ComesBefore, AreNeighbours}
-use Rattle.stitch_walk.proofs.WalkState.{following, HoldsTurned, LeadsToTurned, left_of, EndsBelow, IsFound, HasComeTo, IsWalking, rows_left}
+use Rattle.stitch_walk.specs.Reaches.{following}
+use Rattle.stitch_walk.proofs.WalkState.{HoldsTurned, LeadsToTurned, left_of, EndsBelow, IsFound, HasComeTo, IsWalking, rows_left}
 use Rattle.stitch_walk.proofs.Facing.{same_point, apart_turned, inside_turned, first_leads, next_leads, ends_left, over}
 use Rattle.stitch_walk.proofs.Linked.{one_tile}
 use Rattle.stitch_walk.proofs.Pairs.{pairs_none, pairs_added, last_cases}

@@ -34,11 +34,15 @@ pub record ComesBefore (s : Store) (side : Side) (i j : TileId) : Type 0 where
   pub second_is : tile_at s j ≡ Some second
   pub ends_before : (turned side first.area).y1 <ℤ (turned side second.area).y0
 
+-- no number stands twice in the list
+abbrev pub IsDistinct : List TileId → Type 0
+IsDistinct ids = AllPairs (λ i j. i ≢ j) ids
+
 -- found lists exactly the neighbours of the tile under id on this side, each once, in the order of the walk
 pub record AreNeighbours (s : Store) (side : Side) (id : TileId) (found : List TileId) : Type 0 where
   pub listed : (j : TileId) → Contains found j → IsNeighbour s side id j
   pub complete : (j : TileId) → IsNeighbour s side id j → Contains found j
-  pub once : AllPairs (λ i j. i ≢ j) found
+  pub once : IsDistinct found
   pub in_order : AllPairs (ComesBefore s side) found
 
 -- the tile under the number meets the area
@@ -51,4 +55,4 @@ pub record MeetsArea (s : Store) (area : Rect) (id : TileId) : Type 0 where
 pub record AreMeeting (s : Store) (area : Rect) (found : List TileId) : Type 0 where
   pub listed : (id : TileId) → Contains found id → MeetsArea s area id
   pub complete : (id : TileId) → MeetsArea s area id → Contains found id
-  pub once : AllPairs (λ i j. i ≢ j) found
+  pub once : IsDistinct found

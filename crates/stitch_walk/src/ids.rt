@@ -58,4 +58,13 @@ impl Ids {
         self.items.push(id)?;
         Ok(())
     }
+
+    /// Adds these numbers at the end. After `NoMemory` the list is as before.
+    pub fn append(&mut self, more: &[TileId]) -> Result<(), NoMemory>
+        ensures ok { OnOk result (self.new ≡ self.old ++ more.now) }
+        ensures err { OnErr result (self.new ≡ self.old) }
+    {
+        self.items.extend_from_slice(more)?;
+        Ok(())
+    }
 }

@@ -5,7 +5,9 @@
 #![tactic(auto)]
 
 mod ids;
-mod stitches;
+mod locating;
+mod sides;
+mod sweeps;
 mod tilings;
 mod walks;
 
