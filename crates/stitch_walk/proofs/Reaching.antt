@@ -291,3 +291,12 @@ by_side tiles side other t e h = let P : Side → Type 0 = λ k. HasPoint tiles.
 
 pub holds_by_side : (tiles : Tiles) (side other : Side) (id : TileId) (t : Tile) → other ≡ following side → Holds tiles.store id (stitch_point other t.area) → Holds tiles.store id (stitch_point (following side) t.area)
 holds_by_side tiles side other id t e h = let P : Side → Type 0 = λ k. Holds tiles.store id (stitch_point k t.area) in subst P e h
+
+pub past_by : (s : Store) (side : Side) (id : TileId) (p q : Point) → p ≡ q → IsPast s side q id → IsPast s side p id
+past_by s side id p q e h = let P : Point → Type 0 = λ z. IsPast s side z id in subst P (sym e) h
+
+pub inside_by : (domain : Rect) (p q : Point) → p ≡ q → HasPoint domain q → HasPoint domain p
+inside_by domain p q e h = let P : Point → Type 0 = λ z. HasPoint domain z in subst P (sym e) h
+
+pub holds_by : (s : Store) (id : TileId) (p q : Point) → p ≡ q → Holds s id p → Holds s id q
+holds_by s id p q e h = let P : Point → Type 0 = λ z. Holds s id z in subst P e h

@@ -8,10 +8,18 @@ ghost use Rattle.stitch_walk.specs.Reaches.{opposite, IsLevel, Reaches, IsPast};
 
 use crate::sides::{begins_after, beside, ends_short, following, stitch};
 use crate::tilings::Tiling;
-use geo_rect::Point;
+use geo_rect::{Point, Rect};
 use plane_core::Side;
 use std::sync::ledger::Ledger;
 use tile_store::{Steps, Tile, TileId};
+
+/// The point in the first column of `r` and in the row of `p`.
+fn corner(r: Rect, p: Point) -> Point
+    ensures column { result.x ≡ r.x0 }
+    ensures row { result.y ≡ p.y }
+{
+    Point { x: r.x0, y: p.y }
+}
 
 impl Tiling {
     /// The number of the tile that has the point `p` of the domain, found from the tile under `hint`.
@@ -21,10 +29,7 @@ impl Tiling {
         ensures { Holds self.now.store result p }
     {
         let start = self.tile(hint, steps).area;
-        let corner = Point {
-            x: start.x0,
-            y: p.y,
-        };
+        let corner = corner(start, p);
         let in_row = self.go_upright(hint, corner, steps);
         self.go_level(in_row, p, steps)
     }
