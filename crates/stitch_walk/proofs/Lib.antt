@@ -6,3 +6,4 @@ pub mod WalkState
 pub mod Reaching
 pub mod SweepState
 pub mod Sweeping
+pub mod Swept

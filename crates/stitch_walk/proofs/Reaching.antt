@@ -300,3 +300,15 @@ inside_by domain p q e h = let P : Point → Type 0 = λ z. HasPoint domain z in
 
 pub holds_by : (s : Store) (id : TileId) (p q : Point) → p ≡ q → Holds s id p → Holds s id q
 holds_by s id p q e h = let P : Point → Type 0 = λ z. Holds s id z in subst P e h
+
+not_after : (a b : ℤ) → (a <ℤ b → ⊥) → b ≤ℤ a
+not_after a b n = by_lt_z a b (λ (l : a <ℤ b). absurd (n l)) (λ (m : b ≤ℤ a). m)
+
+-- a point that lies past no edge of a rectangle is one of its points
+pub past_no_edge : (r : Rect) (p : Point) → (BeginsAfter Left r p → ⊥) → (BeginsAfter Below r p → ⊥) → (BeginsAfter Right r p → ⊥) → (BeginsAfter Above r p → ⊥) → HasPoint r p
+past_no_edge r p left below right above =
+    let a : r.x0 ≤ℤ p.x = not_after p.x r.x0 left in
+    let b : r.y0 ≤ℤ p.y = not_after p.y r.y0 below in
+    let c : (pos 0 -ℤ r.x1) ≤ℤ (pos 0 -ℤ p.x) = not_after (pos 0 -ℤ p.x) (pos 0 -ℤ r.x1) right in
+    let d : (pos 0 -ℤ r.y1) ≤ℤ (pos 0 -ℤ p.y) = not_after (pos 0 -ℤ p.y) (pos 0 -ℤ r.y1) above in
+    record { across = record { from = a; to = omega (arith, ints) }; up = record { from = b; to = omega (arith, ints) } }

@@ -1,4 +1,4 @@
-ghost use Rattle.std.specs.Prelude.{◌≡◌, [], ◌∷◌, ◌++◌, length, OnOk, OnErr, IsTrue, ◌↔◌};
+ghost use Rattle.std.specs.Prelude.{◌≡◌, [], ◌∷◌, ◌++◌, ◌<◌, length, slice_get, Some, OnOk, OnErr, IsTrue, ◌↔◌};
 
 use geo_rect::NoMemory;
 use smallvec::SmallVec;
@@ -48,6 +48,14 @@ impl Ids {
         ensures { result.now ≡ self.now }
     {
         self.items.as_slice()
+    }
+
+    /// The number at a place, counted from 0.
+    pub fn at(&self, place: usize) -> TileId
+        requires { place < length self.now }
+        ensures { slice_get self.now place ≡ Some result }
+    {
+        self.as_slice()[place]
     }
 
     /// Adds one number at the end. After `NoMemory` the list is as before.

@@ -95,5 +95,8 @@ pub fn has_point(r: Rect, p: Point) -> bool
     if begins_after(r, Side::Right, p) {
         return false;
     }
-    !begins_after(r, Side::Above, p)
+    if begins_after(r, Side::Above, p) {
+        return false;
+    }
+    true
 }

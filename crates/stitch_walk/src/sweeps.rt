@@ -1,6 +1,6 @@
 //! The tiles that meet an area, from the one that has its lower left corner, each over one step to
 //! the right or upwards.
-ghost use Rattle.std.specs.Prelude.{Contains, IfOk, IsTrue, ◌↔◌};
+ghost use Rattle.std.specs.Prelude.{◌≡◌, Contains, IfOk, IsTrue, ◌↔◌};
 ghost use Rattle.geo_rect.specs.Plane.{LiesIn};
 ghost use Rattle.plane_core.specs.Labels.{IsSmall};
 ghost use Rattle.tile_store.specs.declared.tiles.TileId.{TileId as Number};
@@ -42,13 +42,20 @@ fn enters_from(r: Rect, area: Rect, t: Rect) -> bool
     requires { IsSmall r }
     ensures { IsTrue result ↔ EntersFrom area t r }
 {
-    if !meets(r, area) {
+    let Some(p) = entry(r, area) else {
         return false;
+    };
+    if has_point(t, p) {
+        return meets(r, area);
     }
-    match entry(r, area) {
-        Some(p) => has_point(t, p),
-        None => false,
-    }
+    false
+}
+
+/// The lower left corner of `r`.
+fn first_point(r: Rect) -> Point
+    ensures { result ≡ record { x = r.x0; y = r.y0 } }
+{
+    Point { x: r.x0, y: r.y0 }
 }
 
 impl Tiling {
@@ -62,16 +69,12 @@ impl Tiling {
         requires { LiesIn area self.now.domain }
         ensures { IfOk result (λ found. AreMeeting self.now.store area found) }
     {
-        let corner = Point {
-            x: area.x0,
-            y: area.y0,
-        };
-        let root = self.locate(self.hint(), corner, steps);
+        let root = self.locate(self.hint(), first_point(area), steps);
         let mut found = Ids::new(alloc);
         found.push(root)?;
         let mut place = 0;
         while place < found.len() {
-            let entered = self.all_entered(alloc, found.as_slice()[place], area, steps)?;
+            let entered = self.all_entered(alloc, found.at(place), area, steps)?;
             found.append(entered.as_slice())?;
             place += 1;
         }
@@ -89,6 +92,7 @@ impl Tiling {
         requires { IsPresent self.now.store id }
         ensures { IfOk result (λ found. AreAllEntered self.now.store area id found) }
     {
+        let _domain = self.domain;
         let right = self.side_walk::<2, L>(alloc, id, steps)?;
         let mut found = self.entered(alloc, id, right.as_slice(), area, steps)?;
         let above = self.side_walk::<3, L>(alloc, id, steps)?;
