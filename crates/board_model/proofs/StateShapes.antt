@@ -50,7 +50,7 @@ board_known b h =
     (All-map (IsKnown b) block_shape b.blocks (All-weaker (IsBlock b) (λ k. IsKnown b (block_shape k)) (block_known b h.width h.height) b.blocks h.each_block))
     (All-flat_map (IsKnown b) pin_shapes b.pins (All-weaker (IsPin b) (λ p. All (IsKnown b) (pin_shapes p)) (pin_known b h.width h.height) b.pins h.each_pin))
 
-none_made : (b : BoardParts) (n : ℕ) (lists : List (List Conn)) → All (λ conns. conns ≡ []) lists → made_shapes b n lists ≡ []
+pub none_made : (b : BoardParts) (n : ℕ) (lists : List (List Conn)) → All (λ conns. conns ≡ []) lists → made_shapes b n lists ≡ []
 none_made b n [] h = refl
 none_made b n (conns ∷ lists) h =
     let P : List Conn → Type 0 = λ cs. made_shapes b n (cs ∷ lists) ≡ [] in

@@ -1,14 +1,12 @@
 -- What the functions that add a line need of a line that breaks no rule.
-use Rattle.std.proofs.Common.{◌≡◌, ◌≢◌, ℕ, ◌+◌, ◌<◌, ◌≤◌, ◌^◌, false, List, All, length, get_or, refl, sym, ap, ◌∙◌, arith, [], inl, inr, subst}
+use Rattle.std.proofs.Common.{◌≡◌, ◌≢◌, ◌⊎◌, ℕ, ◌≤◌, false, List, All, length, refl, sym, ap, arith, [], inl, inr, subst}
 use Rattle.std.proofs.lemmas.Bool.{cases_lt}
 use Rattle.std.proofs.lemmas.List.{get_or_past}
-use Rattle.board_model.specs.Rules.{IsWordByte}
 use Rattle.board_reader.specs.declared.forms.Form.{Form}
 use Rattle.std.specs.Str.{IsAscii}
 use Rattle.std.proofs.lemmas.Int.{ints}
 use Rattle.board_reader.specs.declared.drafts.Draft.{Draft}
 use Rattle.board_reader.specs.declared.forms.Form.TheVariants as form
-use Rattle.board_reader.specs.declared.forms.Place.TheVariants.{Title, NewName, KnownName, Number, Across, Up}
 use Rattle.board_reader.specs.declared.forms.Sort.TheVariants as sort
 use Rattle.board_reader.specs.declared.forms.Stage.TheVariants.{Start, Parts, Commands}
 use Rattle.board_reader.specs.declared.refusals.RefusalKind.TheVariants.{OutOfRange, TwiceNamed}
@@ -20,7 +18,7 @@ use Rattle.board_reader.specs.Names.{is_in}
 use Rattle.board_reader.specs.Numbers.{number, IsShort, HaveShortCorners}
 use Rattle.board_reader.specs.Passing.{BreaksNone}
 use Rattle.board_reader.proofs.Ascii.{ascii-bytes}
-use Rattle.board_reader.proofs.Unbroken.{each-place, in-range, in-width, in-height, is-fresh, stands}
+use Rattle.board_reader.proofs.Unbroken.{each-place, in-range, in-width, in-height, is-fresh}
 
 short-number : (d : Draft) (a b : ℕ) (w : List ℕ) → b ≤ 1048576 → (a ≤ number w) × (number w ≤ b) → IsShort w
 short-number d a b w h r = omega (arith, r.1)
@@ -102,6 +100,15 @@ ascii-word ws h i =
 pub as-form : (d : Draft) (f g : Form) (ws : List (List ℕ)) → f ≡ g → BreaksNone d f ws → BreaksNone d g ws
 as-form d f g ws e h = subst (λ x. BreaksNone d x ws) e h
 
+-- the form of a command stands after `end`
+pub command-stage : (f : Form) → (f ≡ form.Route) ⊎ ((f ≡ form.All) ⊎ ((f ≡ form.Rip) ⊎ ((f ≡ form.Show) ⊎ ((f ≡ form.Rules) ⊎ (f ≡ form.Strips))))) → stage_of f ≡ Commands
+command-stage f (inl e) = ap stage_of e
+command-stage f (inr (inl e)) = ap stage_of e
+command-stage f (inr (inr (inl e))) = ap stage_of e
+command-stage f (inr (inr (inr (inl e)))) = ap stage_of e
+command-stage f (inr (inr (inr (inr (inl e))))) = ap stage_of e
+command-stage f (inr (inr (inr (inr (inr e))))) = ap stage_of e
+
 -- what a line after `end` says is its command
 pub command-form : (d : Draft) (f : Form) (ws : List (List ℕ)) → stage_of f ≡ Commands → with_command d (command_of d f ws) ≡ after_form d f ws
 unfolding after_form
@@ -115,5 +122,9 @@ command-form d form.Block ws e = absurd (cc)
 command-form d form.Net ws e = absurd (cc)
 command-form d form.Pin ws e = absurd (cc)
 command-form d form.End ws e = absurd (cc)
+command-form d form.Route ws e = refl
+command-form d form.All ws e = refl
+command-form d form.Rip ws e = refl
+command-form d form.Show ws e = refl
 command-form d form.Rules ws e = refl
 command-form d form.Strips ws e = refl

@@ -1,5 +1,5 @@
 -- The bytes of words are ASCII.
-use Rattle.std.proofs.Common.{ℕ, ◌<◌, ◌≤◌, List, All, length, arith, inl, inr}
+use Rattle.std.proofs.Common.{ℕ, List, All, length, arith, inl, inr}
 use Rattle.std.specs.Str.{IsAscii}
 use Rattle.std.proofs.lemmas.Bool.{cases_lt}
 use Rattle.std.proofs.lemmas.List.{get_or_past}

@@ -1,7 +1,7 @@
 -- A reading against its first line that breaks a rule, both ways.
-use Rattle.std.proofs.Common.{◌≡◌, ◌≢◌, ◌⊎◌, ◌↔◌, ℕ, ◌+◌, Bool, true, false, List, [], ◌∷◌, ◌++◌, Option, Some, None, Result, Ok, Err, length, refl, sym, ap, ◌∙◌, arith, inl, inr, subst, if◌then◌else◌}
+use Rattle.std.proofs.Common.{◌≡◌, ◌≢◌, ◌⊎◌, ◌↔◌, ℕ, ◌+◌, true, false, List, [], ◌∷◌, ◌++◌, Some, None, Result, Ok, Err, length, refl, sym, ap, ◌∙◌, arith, inl, inr, subst}
 use Rattle.std.specs.Prelude.{find}
-use Rattle.std.proofs.lemmas.Bool.{cases_Bool, cond-true, cond-false, false≢true, true≢false}
+use Rattle.std.proofs.lemmas.Bool.{cases_Bool, cond-true, cond-false, false≢true}
 use Rattle.board_reader.specs.declared.drafts.Draft.{Draft}
 use Rattle.board_reader.specs.declared.forms.Stage.{Stage}
 use Rattle.board_reader.specs.declared.forms.Stage.TheVariants.{Start, Parts, Commands}
@@ -11,9 +11,9 @@ use Rattle.board_reader.specs.declared.refusals.RefusalKind.TheVariants.{NoEnd}
 use Rattle.board_reader.specs.Checks.{applies, order, kind_of_line, kind_with}
 use Rattle.board_reader.specs.Drafts.{no_draft}
 use Rattle.board_reader.specs.Forms.{form_of, is_stage}
-use Rattle.board_reader.specs.Law.{Applies, NoneApplies, IsFirst, BreaksNoRule, with_line, BreakNoRule, IsFirstBroken, HasNoEnd, IsRefusal, IsTold}
+use Rattle.board_reader.specs.Law.{NoneApplies, IsFirst, BreaksNoRule, with_line, BreakNoRule, IsFirstBroken, HasNoEnd, IsRefusal, IsTold}
 use Rattle.board_reader.specs.Lines.{lines, counts, words, word}
-use Rattle.board_reader.specs.Reading.{Told, told, step, unless, after_line, reading_from, reading, goes_on}
+use Rattle.board_reader.specs.Reading.{Told, told, step, after_line, reading_from, reading, goes_on}
 use Rattle.board_reader.proofs.Lining.{ended, not-ended}
 use Rattle.board_reader.proofs.Stepping.{skipped, refused, passed, cases_option}
 

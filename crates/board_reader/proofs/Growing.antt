@@ -1,11 +1,10 @@
 -- What the parts of a draft keep when one item more is added, or another list grows.
-use Rattle.std.proofs.Common.{◌≡◌, ◌≢◌, ℕ, ℤ, pos, ◌+◌, ◌<◌, ◌≤◌, ◌≤ℤ◌, min, max, true, false, List, [], ◌∷◌, ◌++◌, All, length, sym, ap, ◌∙◌, arith, subst}
-use Rattle.std.proofs.lemmas.Bool.{eqb-true, or_cases}
+use Rattle.std.proofs.Common.{◌≡◌, ℕ, ℤ, pos, ◌+◌, ◌<◌, ◌≤◌, List, [], ◌∷◌, ◌++◌, All, length, sym, ap, ◌∙◌, arith, subst}
 use Rattle.std.proofs.lemmas.Int.{ints}
 use Rattle.std.proofs.lemmas.List.{length_push}
 use Rattle.std.proofs.lemmas.List.Elements.{All-push, All-weaker, All-nil}
 use Rattle.geo_rect.specs.declared.ids.ClassId.{ClassId}
-use Rattle.board_model.specs.Rules.{IsName, AreNames, IsSide, IsMeasure, IsRule, IsKind, IsOnBoard}
+use Rattle.board_model.specs.Rules.{IsSide, IsMeasure, IsRule, IsKind}
 use Rattle.board_model.specs.declared.parts.Block.{Block}
 use Rattle.board_model.specs.declared.parts.Pin.{Pin}
 use Rattle.board_model.specs.declared.parts.Rule.{Rule}

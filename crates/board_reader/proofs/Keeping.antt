@@ -1,32 +1,27 @@
 -- A line that breaks no rule leaves a draft that keeps all rules so far.
-use Rattle.std.proofs.Common.{◌≡◌, ◌≢◌, ℕ, ℤ, pos, ◌+◌, ◌<◌, ◌≤◌, ◌≤ℤ◌, min, max, Bool, true, false, List, [], ◌∷◌, ◌++◌, All, length, get_or, sym, ap, ◌∙◌, arith, inl, inr, subst}
-use Rattle.std.specs.Prelude.{nat_lt, not, ◌||◌, ◌==◌, Option, Some, None}
+use Rattle.std.proofs.Common.{◌≡◌, ℕ, pos, ◌+◌, ◌<◌, ◌≤◌, min, max, true, false, List, [], All, length, arith, inl, inr}
+use Rattle.std.specs.Prelude.{◌==◌, Option, Some, None}
 use Rattle.std.proofs.lemmas.Bool.{eqb-true, ltb-false, or_cases, not-false}
 use Rattle.std.proofs.lemmas.Int.{ints}
 use Rattle.std.proofs.lemmas.List.{length_push}
-use Rattle.board_model.specs.Rules.{IsName, AreNames, IsSide, IsMeasure, IsRule, IsKind, IsOnBoard}
+use Rattle.board_model.specs.Rules.{IsName, IsKind, IsOnBoard}
 use Rattle.board_model.specs.declared.commands.Command.{Command}
-use Rattle.board_model.specs.declared.parts.ViaKind.{ViaKind}
-use Rattle.geo_rect.specs.declared.shapes.Rect.{Rect}
 use Rattle.board_reader.specs.declared.drafts.Draft.{Draft}
-use Rattle.board_reader.specs.declared.drafts.Heading.{Heading}
 use Rattle.board_reader.specs.declared.forms.Form.{Form}
 use Rattle.board_reader.specs.declared.forms.Form.TheVariants as form
-use Rattle.board_reader.specs.declared.forms.Place.TheVariants.{Title, NewName, KnownName, Number, Across, Up}
 use Rattle.board_reader.specs.declared.forms.Sort.TheVariants as sort
-use Rattle.board_reader.specs.declared.forms.Stage.TheVariants.{Start, Parts, Commands}
-use Rattle.board_reader.specs.declared.refusals.RefusalKind.TheVariants.{BadWord, OutOfRange, UnknownName, TwiceNamed, TooMany, BadRect, MissingRule}
+use Rattle.board_reader.specs.declared.forms.Stage.TheVariants.{Parts}
+use Rattle.board_reader.specs.declared.refusals.RefusalKind.TheVariants.{BadWord, OutOfRange, UnknownName, TooMany, BadRect, MissingRule}
 use Rattle.board_reader.specs.Checks.{fails_whole, is_crossed, are_neighbours, is_complete}
-use Rattle.board_reader.specs.Drafts.{after_form, area_of, layer_of, class_of, command_of, with_command}
-use Rattle.board_reader.specs.Kept.{IsDraft, IsWord, IsHeading, IsBlockOf, IsPinOf}
+use Rattle.board_reader.specs.Drafts.{after_form, area_of, layer_of, command_of, with_command}
+use Rattle.board_reader.specs.Kept.{IsDraft, IsWord}
 use Rattle.board_reader.specs.Lines.{word}
-use Rattle.board_reader.specs.Names.{is_in, number_in}
 use Rattle.board_reader.specs.Numbers.{number}
 use Rattle.board_reader.specs.Passing.{BreaksNone}
 use Rattle.board_reader.proofs.Adding.{layer-fresh, class-fresh, kind-fresh, net-fresh, rule-half, rule-gap, kind-charge, pad-half, OnBoard, block-corners, pin-corners}
 use Rattle.board_reader.proofs.Growing.{rules-push, pads-push, kinds-push, kinds-grow, nets-push, nets-grow, blocks-push, blocks-grow, blocks-none, pins-push, pins-grow, pins-none, measure-in, side-in}
 use Rattle.board_reader.proofs.Naming.{names-push, number-in-range}
-use Rattle.board_reader.proofs.Unbroken.{each-place, whole-line, in-range, is-known, is-short, is-short-title, stands, word-count, or-left, or-right}
+use Rattle.board_reader.proofs.Unbroken.{each-place, whole-line, in-range, is-known, is-short, is-short-title, stands, word-count}
 
 -- a word in a place that the line has, of no more than 64 bytes, is a name
 pub name-at : (ws : List (List ℕ)) (i n : ℕ) → All IsWord ws → length ws ≡ n → i < n → length (word ws i) ≤ 64 → IsName (word ws i)
@@ -311,5 +306,9 @@ keeps-form d form.Block ws k w h = keeps-block d ws k w h
 keeps-form d form.Net ws k w h = keeps-net d ws k w h
 keeps-form d form.Pin ws k w h = keeps-pin d ws k w h
 keeps-form d form.End ws k w h = keeps-end d ws k h
+keeps-form d form.Route ws k w h = keeps-command d (command_of d form.Route ws) k
+keeps-form d form.All ws k w h = keeps-command d (command_of d form.All ws) k
+keeps-form d form.Rip ws k w h = keeps-command d (command_of d form.Rip ws) k
+keeps-form d form.Show ws k w h = keeps-command d (command_of d form.Show ws) k
 keeps-form d form.Rules ws k w h = keeps-command d (command_of d form.Rules ws) k
 keeps-form d form.Strips ws k w h = keeps-command d (command_of d form.Strips ws) k

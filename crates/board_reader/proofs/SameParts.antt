@@ -1,33 +1,35 @@
 -- The lists of a board, put together, are those of the draft.
-use Rattle.std.proofs.Common.{◌≡◌, ℤ, pos, List, ap, sym, ◌∙◌}
+use Rattle.std.proofs.Common.{◌≡◌, ℤ, pos, List, length, ap}
 use Rattle.board_model.specs.declared.parts.BoardParts.{BoardParts}
 use Rattle.board_reader.specs.declared.drafts.Draft.{Draft}
 use Rattle.board_reader.specs.declared.finishing.NameLists.{NameLists}
-use Rattle.board_reader.specs.declared.finishing.Tables.{Tables}
-use Rattle.board_reader.specs.Drafts.{parts_of, names_of_draft, tables_of_draft}
+use Rattle.board_model.specs.declared.parts.Rule.{Rule}
+use Rattle.board_reader.specs.Tables.{table}
+use Rattle.board_reader.specs.Drafts.{parts_of, names_of_draft}
 use Rattle.board_reader.specs.Reading.{Told, told}
 
-abbrev pub put_together : Draft → ℤ → ℤ → NameLists → Tables → BoardParts
-put_together d w h n t = record {
+abbrev pub put_together : Draft → ℤ → ℤ → NameLists → List Rule → List ℤ → BoardParts
+put_together d w h n rules pads = record {
   name = d.heading.name;
   width = w;
   height = h;
   layers = n.layers;
   classes = n.classes;
-  rules = t.rules;
+  rules = rules;
   kind_names = n.kinds;
   kinds = d.kinds;
-  pads = t.pads;
+  pads = pads;
   blocks = d.blocks;
   net_names = n.nets;
   net_classes = d.net_classes;
   pins = d.pins;
 }
 
-pub same-parts : (d : Draft) (w h : ℤ) (n : NameLists) (t : Tables) → w ≡ pos d.heading.width → h ≡ pos d.heading.height → n ≡ names_of_draft d → t ≡ tables_of_draft d
-    → put_together d w h n t ≡ parts_of d
+pub same-parts : (d : Draft) (w h : ℤ) (n : NameLists) (rules : List Rule) (pads : List ℤ) → w ≡ pos d.heading.width → h ≡ pos d.heading.height → n ≡ names_of_draft d
+    → rules ≡ table d.rules (length d.layers) (length d.classes) → pads ≡ table d.pads (length d.kind_names) (length d.classes)
+    → put_together d w h n rules pads ≡ parts_of d
 unfolding parts_of
-same-parts d w h n t ew eh en et = λ i. put_together d (ew i) (eh i) (en i) (et i)
+same-parts d w h n rules pads ew eh en er ep = λ i. put_together d (ew i) (eh i) (en i) (er i) (ep i)
 
 abbrev pub with_commands : BoardParts → Draft → Told
 with_commands p d = record { parts = p; commands = d.commands }

@@ -1,9 +1,9 @@
 -- No lines: a draft that keeps all rules, and is none that has ended.
-use Rattle.std.proofs.Common.{◌≡◌, ◌≢◌, ℕ, List, [], ◌∷◌, All, refl, arith}
+use Rattle.std.proofs.Common.{ℕ, [], refl, arith}
 use Rattle.std.proofs.lemmas.List.Elements.{All-nil}
 use Rattle.board_model.specs.Rules.{AreNames, IsName}
 use Rattle.board_reader.specs.Drafts.{no_draft}
-use Rattle.board_reader.specs.Kept.{IsDraft, IsBlockOf, IsPinOf}
+use Rattle.board_reader.specs.Kept.{IsDraft}
 
 no-names : (most : ℕ) → AreNames most []
 no-names most = record { few = omega arith; each = All-nil IsName; apart = λ i j d lt inside. absurd (omega arith) }

@@ -1,17 +1,16 @@
 -- One line: what its first nine words say of it, and what a line leaves.
-use Rattle.std.proofs.Common.{◌≡◌, ◌≢◌, ℕ, ◌+◌, ◌<◌, ◌≤◌, min, Bool, true, false, cond, List, [], ◌∷◌, ◌++◌, All, ◌⊎◌, Option, Some, None, Ok, Err, length, take, get_or, refl, sym, ap, ◌∙◌, arith, inl, inr, subst}
-use Rattle.std.specs.Prelude.{not, ◌||◌, ◌==◌, find}
+use Rattle.std.proofs.Common.{◌≡◌, ℕ, ◌+◌, ◌<◌, ◌≤◌, min, Bool, true, false, List, [], ◌∷◌, All, ◌⊎◌, Option, Some, None, Ok, Err, length, take, refl, sym, ap, ◌∙◌, arith, inl, inr, subst}
+use Rattle.std.specs.Prelude.{◌||◌, ◌==◌, find}
 use Rattle.std.specs.List.{list_any, AllByRecursion}
-use Rattle.std.proofs.lemmas.Bool.{ne_eqb, cases_Bool, cases_lt, cond-true, cond-false, false≢true, true≢false}
+use Rattle.std.proofs.lemmas.Bool.{ne_eqb, cases_Bool, cases_lt, cond-true, cond-false}
 use Rattle.std.proofs.lemmas.List.{take_all, length-take}
 use Rattle.std.proofs.lemmas.List.Elements.{All-take}
-use Rattle.std.proofs.lemmas.Grind.{common_steps}
 use Rattle.board_reader.specs.declared.drafts.Draft.{Draft}
 use Rattle.board_reader.specs.declared.forms.Form.{Form}
 use Rattle.board_reader.specs.declared.forms.Form.TheVariants as form
 use Rattle.board_reader.specs.declared.refusals.RefusalKind.{RefusalKind}
-use Rattle.board_reader.specs.declared.refusals.RefusalKind.TheVariants.{NotAscii, BadWord, BadNumber, OutOfRange, UnknownName, TwiceNamed, WrongPlace, MissingRule, TooMany, BadRect}
-use Rattle.board_reader.specs.Checks.{applies, breaks, some_fails, fails_whole, kind_with, kind_of_line, order, form_order}
+use Rattle.board_reader.specs.declared.refusals.RefusalKind.TheVariants.{NotAscii, BadWord}
+use Rattle.board_reader.specs.Checks.{applies, breaks, some_fails, fails_whole, kind_with, kind_of_line, order}
 use Rattle.board_reader.specs.Drafts.{after_form}
 use Rattle.board_reader.specs.Forms.{form_of, places}
 use Rattle.board_reader.specs.Kept.{IsDraft, IsWord}
@@ -44,6 +43,10 @@ few-places form.Block = omega arith
 few-places form.Net = omega arith
 few-places form.Pin = omega arith
 few-places form.End = omega arith
+few-places form.Route = omega arith
+few-places form.All = omega arith
+few-places form.Rip = omega arith
+few-places form.Show = omega arith
 few-places form.Rules = omega arith
 few-places form.Strips = omega arith
 

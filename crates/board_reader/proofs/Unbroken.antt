@@ -1,18 +1,16 @@
 -- What a line says that breaks no rule.
-use Rattle.std.proofs.Common.{◌≡◌, ◌≢◌, ℕ, ◌+◌, ◌<◌, ◌≤◌, ◌^◌, Bool, true, false, List, [], ◌∷◌, length, All, refl, sym, ap, ◌∙◌, arith, get_or}
-use Rattle.std.specs.Prelude.{not, ◌||◌, nat_lt, IsTrue}
+use Rattle.std.proofs.Common.{◌≡◌, ℕ, ◌+◌, ◌≤◌, Bool, true, false, List, [], ◌∷◌, length, refl, sym}
+use Rattle.std.specs.Prelude.{◌||◌, nat_lt}
 use Rattle.std.proofs.lemmas.Bool.{ltb-false, not-false, eqb-true, false≢true}
-use Rattle.board_model.specs.Rules.{IsName}
 use Rattle.board_reader.specs.declared.drafts.Draft.{Draft}
 use Rattle.board_reader.specs.declared.forms.Form.{Form}
-use Rattle.board_reader.specs.declared.forms.Form.TheVariants as form
 use Rattle.board_reader.specs.declared.forms.Place.{Place}
 use Rattle.board_reader.specs.declared.forms.Place.TheVariants.{Title, NewName, KnownName, Number, Across, Up}
 use Rattle.board_reader.specs.declared.forms.Sort.{Sort}
 use Rattle.board_reader.specs.declared.forms.Stage.{Stage}
 use Rattle.board_reader.specs.declared.forms.Stage.TheVariants.{Start, Parts, Commands}
 use Rattle.board_reader.specs.declared.refusals.RefusalKind.{RefusalKind}
-use Rattle.board_reader.specs.declared.refusals.RefusalKind.TheVariants.{BadWord, BadNumber, OutOfRange, UnknownName, TwiceNamed, WrongPlace, MissingRule, TooMany, BadRect}
+use Rattle.board_reader.specs.declared.refusals.RefusalKind.TheVariants.{BadWord, OutOfRange, UnknownName, TwiceNamed, WrongPlace}
 use Rattle.board_reader.specs.Checks.{breaks, fails, some_fails, fails_whole, names_of}
 use Rattle.board_reader.specs.Forms.{places, stage_of, is_stage}
 use Rattle.board_reader.specs.Lines.{word}

@@ -10,7 +10,7 @@ use Rattle.board_reader.specs.declared.forms.Place.TheVariants.{Title, NewName, 
 use Rattle.board_reader.specs.declared.forms.Sort.{Sort}
 use Rattle.board_reader.specs.declared.forms.Sort.TheVariants as sort
 use Rattle.board_reader.specs.declared.refusals.RefusalKind.{RefusalKind}
-use Rattle.board_reader.specs.declared.refusals.RefusalKind.TheVariants.{NotAscii, BadWord, BadNumber, OutOfRange, UnknownName, TwiceNamed, WrongPlace, MissingRule, NoEnd, TooMany, BadRect, BadReply}
+use Rattle.board_reader.specs.declared.refusals.RefusalKind.TheVariants.{NotAscii, BadWord, BadNumber, OutOfRange, UnknownName, TwiceNamed, WrongPlace, MissingRule, TooMany, BadRect}
 use Rattle.board_reader.specs.Drafts.{layer_of, class_of, kind_of}
 use Rattle.board_reader.specs.Forms.{places, stage_of, is_stage, form_of}
 use Rattle.board_reader.specs.Lines.{word, words, is_other_byte}
@@ -112,6 +112,10 @@ is_one_too_many d form.ViaKind = nat_lt MAX_KINDS (length d.kind_names + 1)
 is_one_too_many d form.Net = nat_lt MAX_NETS (length d.net_names + 1)
 is_one_too_many d form.Pin = nat_lt MAX_PINS (length d.pins + 1)
 is_one_too_many d form.Block = nat_lt MAX_BLOCKS (length d.blocks + 1)
+is_one_too_many d form.Route = nat_lt MAX_COMMANDS (length d.commands + 1)
+is_one_too_many d form.All = nat_lt MAX_COMMANDS (length d.commands + 1)
+is_one_too_many d form.Rip = nat_lt MAX_COMMANDS (length d.commands + 1)
+is_one_too_many d form.Show = nat_lt MAX_COMMANDS (length d.commands + 1)
 is_one_too_many d form.Rules = nat_lt MAX_COMMANDS (length d.commands + 1)
 is_one_too_many d form.Strips = nat_lt MAX_COMMANDS (length d.commands + 1)
 is_one_too_many d f = false

@@ -1,23 +1,16 @@
 -- What the lines of a text say, one after the other.
 use Rattle.std.specs.Prelude.{ℕ, pos, min, max, List, [], ◌∷◌, ◌++◌, length, Option, Some, None}
-use Rattle.std.proofs.Common.{arith}
-use Rattle.geo_rect.specs.declared.ids.ClassId.{ClassId}
-use Rattle.geo_rect.specs.declared.ids.KindId.{KindId}
-use Rattle.geo_rect.specs.declared.ids.LayerId.{LayerId}
 use Rattle.geo_rect.specs.declared.ids.NetId.{NetId}
-use Rattle.geo_rect.specs.declared.shapes.Interval.{Interval}
 use Rattle.geo_rect.specs.declared.shapes.Rect.{Rect}
 use Rattle.geo_rect.specs.Plane.{rect_of}
 use Rattle.board_model.specs.declared.commands.Command.{Command}
 use Rattle.board_model.specs.declared.commands.Command.TheVariants as command
 use Rattle.board_model.specs.declared.parts.BoardParts.{BoardParts}
 use Rattle.board_reader.specs.declared.drafts.Draft.{Draft}
-use Rattle.board_reader.specs.declared.drafts.Heading.{Heading}
 use Rattle.board_reader.specs.declared.forms.Form.{Form}
 use Rattle.board_reader.specs.declared.forms.Form.TheVariants as form
 use Rattle.board_reader.specs.declared.forms.Stage.TheVariants.{Start, Parts, Commands}
 use Rattle.board_reader.specs.declared.finishing.NameLists.{NameLists}
-use Rattle.board_reader.specs.declared.finishing.Tables.{Tables}
 use Rattle.board_reader.specs.Corners.{span}
 use Rattle.board_reader.specs.Lines.{word}
 use Rattle.board_reader.specs.Names.{number_in}
@@ -42,7 +35,7 @@ no_draft = record {
   commands = [];
 }
 
--- the number of the layer, the class and the kind that a word names
+-- the number of the layer, the class, the kind and the net that a word names
 abbrev pub layer_of : Draft → List ℕ → ℕ
 layer_of d w = number_in d.layers w
 
@@ -52,12 +45,19 @@ class_of d w = number_in d.classes w
 abbrev pub kind_of : Draft → List ℕ → ℕ
 kind_of d w = number_in d.kind_names w
 
+abbrev pub net_of : Draft → List ℕ → NetId
+net_of d w = record { 0 = number_in d.net_names w }
+
 -- the rectangle of the corners that stand in the places 2 to 5
 abbrev pub area_of : List (List ℕ) → Rect
 area_of ws = rect_of (span (number (word ws 2)) (number (word ws 4))) (span (number (word ws 3)) (number (word ws 5)))
 
 -- the command that a line of this form and these words gives, if it gives one
 abbrev pub command_of : Draft → Form → List (List ℕ) → Option Command
+command_of d form.Route ws = Some (command.Route (net_of d (word ws 1)))
+command_of d form.All ws = Some command.All
+command_of d form.Rip ws = Some (command.Rip (net_of d (word ws 1)))
+command_of d form.Show ws = Some (command.Show (net_of d (word ws 1)))
 command_of d form.Rules ws = Some command.Rules
 command_of d form.Strips ws = Some (command.Strips (record { 0 = layer_of d (word ws 1) }) (record { 0 = class_of d (word ws 2) }))
 command_of d f ws = None
@@ -104,13 +104,17 @@ after_form d form.Net ws = record d {
 }
 after_form d form.Pin ws = record d {
   pins = d.pins ++ record {
-    net = record { 0 = number_in d.net_names (word ws 1) };
+    net = net_of d (word ws 1);
     area = area_of ws;
     first = record { 0 = min (layer_of d (word ws 6)) (layer_of d (word ws 7)) };
     last = record { 0 = max (layer_of d (word ws 6)) (layer_of d (word ws 7)) };
   } ∷ [];
 }
 after_form d form.End ws = record d { stage = Commands }
+after_form d form.Route ws = with_command d (command_of d form.Route ws)
+after_form d form.All ws = with_command d (command_of d form.All ws)
+after_form d form.Rip ws = with_command d (command_of d form.Rip ws)
+after_form d form.Show ws = with_command d (command_of d form.Show ws)
 after_form d form.Rules ws = with_command d (command_of d form.Rules ws)
 after_form d form.Strips ws = with_command d (command_of d form.Strips ws)
 
@@ -135,10 +139,3 @@ parts_of d = record {
 -- all names
 abbrev pub names_of_draft : Draft → NameLists
 names_of_draft d = record { layers = d.layers; classes = d.classes; kinds = d.kind_names; nets = d.net_names }
-
--- the rules and the pads, laid out
-abbrev pub tables_of_draft : Draft → Tables
-tables_of_draft d = record {
-  rules = table d.rules (length d.layers) (length d.classes);
-  pads = table d.pads (length d.kind_names) (length d.classes);
-}

@@ -21,11 +21,15 @@ spelling form.Block = codes "block"
 spelling form.Net = codes "net"
 spelling form.Pin = codes "pin"
 spelling form.End = codes "end"
+spelling form.Route = codes "route"
+spelling form.All = codes "all"
+spelling form.Rip = codes "rip"
+spelling form.Show = codes "show"
 spelling form.Rules = codes "rules"
 spelling form.Strips = codes "strips"
 
 abbrev pub all_forms : List Form
-all_forms = form.Board ∷ form.Layer ∷ form.Class ∷ form.Rule ∷ form.ViaKind ∷ form.Pad ∷ form.Block ∷ form.Net ∷ form.Pin ∷ form.End ∷ form.Rules ∷ form.Strips ∷ []
+all_forms = form.Board ∷ form.Layer ∷ form.Class ∷ form.Rule ∷ form.ViaKind ∷ form.Pad ∷ form.Block ∷ form.Net ∷ form.Pin ∷ form.End ∷ form.Route ∷ form.All ∷ form.Rip ∷ form.Show ∷ form.Rules ∷ form.Strips ∷ []
 
 -- the form that a first word names
 unfoldable pub form_of : List ℕ → Option Form
@@ -47,6 +51,10 @@ places form.Block = KnownName sort.Layer ∷ Across ∷ Up ∷ Across ∷ Up ∷
 places form.Net = NewName sort.Net ∷ KnownName sort.Class ∷ []
 places form.Pin = KnownName sort.Net ∷ Across ∷ Up ∷ Across ∷ Up ∷ KnownName sort.Layer ∷ KnownName sort.Layer ∷ []
 places form.End = []
+places form.Route = KnownName sort.Net ∷ []
+places form.All = []
+places form.Rip = KnownName sort.Net ∷ []
+places form.Show = KnownName sort.Net ∷ []
 places form.Rules = []
 places form.Strips = KnownName sort.Layer ∷ KnownName sort.Class ∷ []
 
@@ -62,6 +70,10 @@ stage_of form.Block = Parts
 stage_of form.Net = Parts
 stage_of form.Pin = Parts
 stage_of form.End = Parts
+stage_of form.Route = Commands
+stage_of form.All = Commands
+stage_of form.Rip = Commands
+stage_of form.Show = Commands
 stage_of form.Rules = Commands
 stage_of form.Strips = Commands
 

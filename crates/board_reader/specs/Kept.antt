@@ -1,5 +1,5 @@
 -- What the lines so far say keeps every rule but those of `end`.
-use Rattle.std.specs.Prelude.{◌≡◌, ◌≢◌, ℕ, ◌≤◌, ◌<◌, ℤ, pos, Bool, true, List, [], length, All}
+use Rattle.std.specs.Prelude.{◌≡◌, ◌≢◌, ℕ, ◌≤◌, ◌<◌, ℤ, pos, true, List, [], length, All}
 use Rattle.geo_rect.specs.declared.ids.ClassId.{ClassId}
 use Rattle.board_model.specs.Rules.{IsName, AreNames, IsSide, IsMeasure, IsRule, IsKind, IsOnBoard, IsWordByte}
 use Rattle.board_model.specs.declared.limits.TheConstants.{MAX_LAYERS, MAX_CLASSES, MAX_KINDS, MAX_NETS, MAX_PINS, MAX_BLOCKS}

@@ -1,5 +1,5 @@
 -- The kinds of refusals: their numbers, and the order in which they are told.
-use Rattle.std.specs.Prelude.{ℕ, List, [], ◌∷◌}
+use Rattle.std.specs.Prelude.{ℕ}
 use Rattle.board_reader.specs.declared.refusals.RefusalKind.{RefusalKind}
 use Rattle.board_reader.specs.declared.refusals.RefusalKind.TheVariants.{NotAscii, BadWord, BadNumber, OutOfRange, UnknownName, TwiceNamed, WrongPlace, MissingRule, NoEnd, TooMany, BadRect, BadReply}
 

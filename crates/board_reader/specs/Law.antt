@@ -1,5 +1,5 @@
 -- What a reading is, in words about lines: the first line that breaks a rule, or what all lines say.
-use Rattle.std.specs.Prelude.{◌≡◌, ◌≢◌, ◌⊎◌, ℕ, ◌+◌, true, false, List, [], ◌∷◌, ◌++◌, length, if◌then◌else◌, IsTrue}
+use Rattle.std.specs.Prelude.{◌≡◌, ◌≢◌, ◌⊎◌, ℕ, ◌+◌, true, List, [], ◌∷◌, ◌++◌, length, if◌then◌else◌}
 use Rattle.board_reader.specs.declared.drafts.Draft.{Draft}
 use Rattle.board_reader.specs.declared.forms.Stage.TheVariants.{Commands}
 use Rattle.board_reader.specs.declared.refusals.Refusal.{Refusal}

@@ -11,5 +11,5 @@ pub mod Names
 pub mod Numbers
 pub mod Passing
 pub mod Reading
+pub mod Splits
 pub mod Tables
-pub mod Built

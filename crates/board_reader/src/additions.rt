@@ -2,7 +2,7 @@ ghost use Rattle.std.specs.Prelude.{◌≡◌, ◌<◌, ◌≤◌, ◌^◌, leng
 ghost use Rattle.std.specs.Str.{IsAscii};
 ghost use Rattle.board_reader.specs.declared.forms.Form.TheVariants as form;
 ghost use Rattle.board_reader.specs.Corners.{span};
-ghost use Rattle.board_reader.specs.Drafts.{after_form, area_of, command_of, with_command};
+ghost use Rattle.board_reader.specs.Drafts.{after_form, area_of, command_of, net_of, with_command};
 ghost use Rattle.board_reader.specs.Lines.{word};
 ghost use Rattle.board_reader.specs.Names.{is_in};
 ghost use Rattle.board_reader.specs.Numbers.{number, IsShort, HaveShortCorners};
@@ -158,6 +158,13 @@ impl Draft {
         self.net_names.push(alloc, words.get(1))
     }
 
+    /// The net that a word names.
+    fn net_of(&self, word: &[u8]) -> NetId
+        ensures { result ≡ net_of self.now word.now }
+    {
+        NetId(self.net_names.number(word))
+    }
+
     #[tactic(auto, unfolding(crate::specs::Drafts::after_form))]
     pub fn add_pin(&mut self, words: &Words) -> Result<(), NoMemory>
         requires { HaveShortCorners words.now }
@@ -166,7 +173,7 @@ impl Draft {
         let one = self.layers.number(words.get(6));
         let other = self.layers.number(words.get(7));
         let pin = Pin {
-            net: NetId(self.net_names.number(words.get(1))),
+            net: self.net_of(words.get(1)),
             area: area_of(words),
             first: LayerId(one.min(other)),
             last: LayerId(one.max(other)),
@@ -186,6 +193,10 @@ impl Draft {
         ensures { result ≡ command_of self.now form words.now }
     {
         match form {
+            Form::Route => Some(Command::Route(self.net_of(words.get(1)))),
+            Form::All => Some(Command::All),
+            Form::Rip => Some(Command::Rip(self.net_of(words.get(1)))),
+            Form::Show => Some(Command::Show(self.net_of(words.get(1)))),
             Form::Rules => Some(Command::Rules),
             Form::Strips => {
                 let layer = LayerId(self.layers.number(words.get(1)));

@@ -164,7 +164,10 @@ impl Draft {
             Form::Net => self.net_names.len() as usize >= MAX_NETS,
             Form::Pin => self.pins.len() >= MAX_PINS,
             Form::Block => self.blocks.len() >= MAX_BLOCKS,
-            Form::Rules | Form::Strips => self.commands.len() >= MAX_COMMANDS,
+            Form::Route | Form::All | Form::Rip | Form::Show | Form::Rules | Form::Strips => self
+                .commands
+                .len()
+                >= MAX_COMMANDS,
             _ => false,
         }
     }

@@ -2,7 +2,7 @@ ghost use Rattle.std.specs.Prelude.{◌≡◌, ◌<◌, ◌^◌, pos, [], length
 ghost use Rattle.board_model.specs.Rules.{IsName};
 ghost use Rattle.board_reader.specs.declared.forms.Stage.TheVariants.{Commands};
 ghost use Rattle.board_reader.specs.Contract.{told_by, TellsReading};
-ghost use Rattle.board_reader.specs.Drafts.{parts_of, names_of_draft, tables_of_draft};
+ghost use Rattle.board_reader.specs.Drafts.{parts_of, names_of_draft};
 ghost use Rattle.board_reader.specs.Kept.{IsDraft};
 ghost use Rattle.board_reader.specs.Reading.{told, reading_from};
 ghost use Rattle.board_reader.specs.Tables.{table};
@@ -23,13 +23,6 @@ pub struct NameLists {
     classes: List<Text>,
     kinds: List<Text>,
     nets: List<Text>,
-}
-
-/// The rules and pads of a draft, laid out.
-#[derive(Drop)]
-pub struct Tables {
-    rules: List<Rule>,
-    pads: List<i32>,
 }
 
 /// A length in micrometres as the board holds it.
@@ -60,15 +53,22 @@ impl Draft {
         })
     }
 
-    fn tables(&self, alloc: Global) -> Result<Tables, NoMemory>
-        ensures { IfOk result (λ t. t ≡ tables_of_draft self.now) }
+    /// The rules by layers, and in each layer by classes.
+    fn rule_table(&self, alloc: Global) -> Result<List<Rule>, NoMemory>
+        ensures { IfOk result (λ r. r ≡ table self.now.rules (length self.now.layers) (length self.now.classes)) }
     {
         let layers = self.layers.len();
         let classes = self.classes.len();
+        lay_out(alloc, self.rules.as_slice(), layers, classes)
+    }
+
+    /// The pads by kinds of vias, and in each kind by classes.
+    fn pad_table(&self, alloc: Global) -> Result<List<i32>, NoMemory>
+        ensures { IfOk result (λ p. p ≡ table self.now.pads (length self.now.kind_names) (length self.now.classes)) }
+    {
         let kinds = self.kind_names.len();
-        let rules = lay_out(alloc, self.rules.as_slice(), layers, classes)?;
-        let pads = lay_out(alloc, self.pads.as_slice(), kinds, classes)?;
-        Ok(Tables { rules, pads })
+        let classes = self.classes.len();
+        lay_out(alloc, self.pads.as_slice(), kinds, classes)
     }
 
     /// The board and the commands of a whole text.
@@ -78,7 +78,8 @@ impl Draft {
         ensures { IfOk result (λ i. told_by i ≡ told self) }
     {
         let names = self.names(alloc)?;
-        let tables = self.tables(alloc)?;
+        let rules = self.rule_table(alloc)?;
+        let pads = self.pad_table(alloc)?;
         let width = signed(self.heading.width);
         let height = signed(self.heading.height);
         let parts = BoardParts {
@@ -87,10 +88,10 @@ impl Draft {
             height,
             layers: names.layers,
             classes: names.classes,
-            rules: tables.rules,
+            rules,
             kind_names: names.kinds,
             kinds: self.kinds,
-            pads: tables.pads,
+            pads,
             blocks: self.blocks,
             net_names: names.nets,
             net_classes: self.net_classes,

@@ -42,6 +42,10 @@ pub enum Form {
     Net,
     Pin,
     End,
+    Route,
+    All,
+    Rip,
+    Show,
     Rules,
     Strips,
 }
@@ -57,7 +61,7 @@ pub enum Stage {
     Commands,
 }
 
-const FORMS: [Form; 12] = [
+const FORMS: [Form; 16] = [
     Form::Board,
     Form::Layer,
     Form::Class,
@@ -68,6 +72,10 @@ const FORMS: [Form; 12] = [
     Form::Net,
     Form::Pin,
     Form::End,
+    Form::Route,
+    Form::All,
+    Form::Rip,
+    Form::Show,
     Form::Rules,
     Form::Strips,
 ];
@@ -123,6 +131,8 @@ static PIN: [Place; 7] = [
     Place::KnownName(Sort::Layer),
 ];
 
+static ONE_NET: [Place; 1] = [Place::KnownName(Sort::Net)];
+
 static STRIPS: [Place; 2] = [Place::KnownName(Sort::Layer), Place::KnownName(Sort::Class)];
 
 static ALONE: [Place; 0] = [];
@@ -143,6 +153,10 @@ impl Form {
             Form::Net => b"net",
             Form::Pin => b"pin",
             Form::End => b"end",
+            Form::Route => b"route",
+            Form::All => b"all",
+            Form::Rip => b"rip",
+            Form::Show => b"show",
             Form::Rules => b"rules",
             Form::Strips => b"strips",
         }
@@ -162,7 +176,8 @@ impl Form {
             Form::Block => &BLOCK,
             Form::Net => &NET,
             Form::Pin => &PIN,
-            Form::End | Form::Rules => &ALONE,
+            Form::End | Form::All | Form::Rules => &ALONE,
+            Form::Route | Form::Rip | Form::Show => &ONE_NET,
             Form::Strips => &STRIPS,
         }
     }
@@ -182,7 +197,8 @@ impl Form {
             | Form::Net
             | Form::Pin
             | Form::End => Stage::Parts,
-            Form::Rules | Form::Strips => Stage::Commands,
+            Form::Route | Form::All | Form::Rip | Form::Show | Form::Rules | Form::Strips =>
+                Stage::Commands,
         }
     }
 

@@ -13,10 +13,12 @@ mod names;
 mod numbers;
 mod reading;
 mod refusals;
+mod splits;
 mod tables;
 mod words;
 
 pub use inputs::Input;
-pub use laws::refusals_are_first;
+pub use laws::{refusals_are_first, splits_are_first};
 pub use reading::read_input;
 pub use refusals::{ReadInput, Refusal, RefusalKind};
+pub use splits::{Split, count_lines, split_check};

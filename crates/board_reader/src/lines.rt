@@ -1,4 +1,4 @@
-ghost use Rattle.std.specs.Prelude.{◌≡◌, ◌<◌, ◌≤◌, ◌∷◌, [], ◌+◌, ◌-◌, length, take, drop};
+ghost use Rattle.std.specs.Prelude.{◌≡◌, ◌<◌, ◌≤◌, ◌∷◌, [], ◌+◌, ◌-◌, min, length, take, drop};
 ghost use Rattle.board_reader.specs.Lines.{is_blank, is_word_byte, is_other_byte, pieces, lines, without_return, counts};
 ghost use Rattle.std.specs.List.{list_any};
 
@@ -23,9 +23,10 @@ pub fn has_other_byte(line: &[u8]) -> bool
 }
 
 /// Up to its first line feed, and after that.
-fn next_piece(text: &[u8]) -> (&[u8], &[u8])
+pub fn next_piece(text: &[u8]) -> (&[u8], &[u8])
     requires { 0 < length text.now }
     ensures pieces { pieces text.now ≡ result.0.now ∷ pieces result.1.now }
+    ensures bytes { min (length text.now) (length result.0.now + 1) + length result.1.now ≡ length text.now }
     ensures shorter { length result.1.now < length text.now }
 {
     for (index, byte) in text.iter().enumerate() {
@@ -36,7 +37,7 @@ fn next_piece(text: &[u8]) -> (&[u8], &[u8])
     (text, &[])
 }
 
-fn without_return(line: &[u8]) -> &[u8]
+pub fn without_return(line: &[u8]) -> &[u8]
     ensures { result.now ≡ without_return line.now }
 {
     let length = line.len();

@@ -1,6 +1,6 @@
 ghost use Rattle.std.specs.Prelude.{IfOk, All, ◌≡◌, OnOk};
+ghost use Rattle.board_model.specs.Commands.{IsCommandOf};
 ghost use Rattle.board_reader.specs.declared.reading.LineError.TheVariants as line_error;
-ghost use Rattle.board_reader.specs.Built.{HasForm};
 ghost use Rattle.board_reader.specs.Contract.{at_line, TellsReading, TellsStep, TellsLines};
 ghost use Rattle.board_reader.specs.Drafts.{after_form};
 ghost use Rattle.board_reader.specs.Kept.{IsDraft, IsWord};
@@ -66,7 +66,8 @@ impl Draft {
                 self.add_end(words);
                 Ok(())
             }
-            Form::Rules | Form::Strips => self.add_command(form, words),
+            Form::Route | Form::All | Form::Rip | Form::Show | Form::Rules | Form::Strips =>
+                self.add_command(form, words),
         }
     }
 
@@ -112,7 +113,7 @@ impl Draft {
 /// Reads a board text: the board and the commands, or the first line that breaks a rule.
 pub fn read_input(alloc: Global, bytes: &[u8]) -> Result<Input, ReadInput>
     ensures reading { TellsReading result (reading bytes.now) }
-    ensures forms { IfOk result (λ i. All (HasForm i.board.parts) i.commands) }
+    ensures commands { IfOk result (λ i. All (IsCommandOf i.board.parts) i.commands) }
 {
     let mut draft = Draft::new(alloc);
     match draft.read_lines(alloc, bytes) {

@@ -60,7 +60,7 @@ impl<'a> Words<'a> {
 }
 
 /// The first word of a line, and what follows it.
-fn next_word(line: &[u8]) -> Option<(&[u8], &[u8])>
+pub fn next_word(line: &[u8]) -> Option<(&[u8], &[u8])>
     ensures { MatchOption result (words line.now ≡ []) (λ p. words line.now ≡ p.0.now ∷ words p.1.now) }
 {
     let line = skip_blanks(line);

@@ -1,3 +1,4 @@
+pub mod Checking
 pub mod Ended
 pub mod Replied
-pub mod Strips
+pub mod Sent

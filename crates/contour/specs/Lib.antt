@@ -1,7 +1,8 @@
 pub mod Answers
 pub mod Causes
+pub mod Checked
 pub mod Endings
 pub mod Inputs
-pub mod Planes
-pub mod Replies
 pub mod Requests
+pub mod Sessions
+pub mod Texts

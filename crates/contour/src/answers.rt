@@ -1,126 +1,90 @@
-ghost use Rattle.std.specs.Prelude.{◌≡◌, ◌≤◌, ◌<◌, length, All, OnOk, IfOk, IfErr};
-ghost use Rattle.board_model.specs.Shapes.{board_shapes};
-ghost use Rattle.board_reader.specs.Built.{HasForm};
-ghost use Rattle.plane_set.specs.Standing.{StandsFor};
-ghost use Rattle.contour.specs.Answers.{nothing_made, AnswersOne, AnswersAll, IsReply, PrintsStrips};
-ghost use Rattle.contour.specs.Endings.{EndsAnswer, EndsAnswers};
-ghost use Rattle.contour.specs.Planes.{AreOfBoard, AreBuiltFor};
+//! The replies to the commands of a board text, each written before the next command is begun.
+ghost use Rattle.std.specs.Prelude.{◌≡◌, ◌≤◌, All, Err, IsOk, OnOk, IfOk, IfErr};
+ghost use Rattle.io_edge.specs.Streams.{Appends};
+ghost use Rattle.board_model.specs.Commands.{IsCommandOf};
+ghost use Rattle.route_law.specs.Regular.{IsRegular};
+ghost use Rattle.reply_text.specs.Texts.{reply_text};
+ghost use Rattle.contour.specs.Answers.{AnswersAll};
+ghost use Rattle.contour.specs.Endings.{EndsAnswer, EndsAnswers, EndsSending};
+ghost use Rattle.contour.specs.Sessions.{AnswersOne};
 
 use crate::endings::Ending;
-use crate::replies::{print_rules, print_strips};
-use board_model::{Board, Command, Made};
-use geo_rect::{ClassId, LayerId, NoMemory};
+use board_model::{Board, Command};
 use io_edge::{Sink, write_all};
 use plane_core::Plane;
-use plane_set::PlaneSet;
-use rule_check::violations;
+use reply_text::print;
+use route_law::Reply;
+use session_core::Session;
 use std::alloc::Global;
 
-/// The reply to `strips`.
-fn strips_reply<P: Plane>(
+/// Writes the text of a reply.
+fn send<K: Sink>(
     alloc: Global,
     board: &Board,
-    planes: &PlaneSet<P>,
-    l: LayerId,
-    c: ClassId,
-) -> Result<Vec<u8>, NoMemory>
-    requires layer { l.0 < length board.now.parts.layers }
-    requires class { c.0 < length board.now.parts.classes }
-    requires planes { StandsFor board.now.parts (board_shapes board.now.parts) planes.now }
-    ensures { IfOk result (λ text. PrintsStrips board.now.parts l c text.items) }
-{
-    let plane = planes.wire(l, c);
-    let strips = plane.strips_in(alloc, plane.domain())?;
-    print_strips(alloc, board, l, c, strips.as_slice())
-}
-
-/// The planes for a command. They are built where it is the first that needs them.
-fn planes_for<P: Plane>(
-    alloc: Global,
-    board: &Board,
-    command: Command,
-    planes: Option<PlaneSet<P>>,
-) -> Result<Option<PlaneSet<P>>, NoMemory>
-    requires { AreOfBoard board.now.parts planes }
-    ensures of_board { IfOk result (AreOfBoard board.now.parts) }
-    ensures built { IfOk result (AreBuiltFor command) }
-{
-    match (command, planes) {
-        (Command::Strips(..), None) => Ok(Some(PlaneSet::build(alloc, board)?)),
-        (_, planes) => Ok(planes),
-    }
-}
-
-/// The reply to a command.
-fn reply_to<P: Plane>(
-    alloc: Global,
-    board: &Board,
-    made: &Made,
-    planes: &Option<PlaneSet<P>>,
-    command: Command,
-) -> Result<Vec<u8>, NoMemory>
-    requires nothing { made.now.lists ≡ nothing_made board.now.parts }
-    requires of_board { AreOfBoard board.now.parts planes.now }
-    requires built { AreBuiltFor command planes.now }
-    requires form { HasForm board.now.parts command }
-    ensures { IfOk result (λ text. IsReply board.now.parts command text.items) }
-{
-    match command {
-        Command::Rules => {
-            let found = violations(alloc, board, made)?;
-            print_rules(alloc, board, found.as_slice())
-        }
-        Command::Strips(layer, class) => {
-            let Some(set) = planes else { unreachable!() };
-            strips_reply(alloc, board, set, layer, class)
-        }
-        _ => unreachable!(),
-    }
-}
-
-/// Makes the reply to one command and writes it.
-fn answer<P: Plane, K: Sink>(
-    alloc: Global,
-    board: &Board,
-    made: &Made,
-    planes: &Option<PlaneSet<P>>,
-    command: Command,
+    reply: &Reply,
+    quiet: bool,
     out: &mut K,
 ) -> Result<(), Ending>
-    requires nothing { made.now.lists ≡ nothing_made board.now.parts }
-    requires of_board { AreOfBoard board.now.parts planes.now }
-    requires built { AreBuiltFor command planes.now }
-    requires form { HasForm board.now.parts command }
-    ensures ok { OnOk result (AnswersOne board.now.parts command (K.written out.old) (K.written out.new)) }
-    ensures err { IfErr result (EndsAnswer board.now.parts command (K.written out.old) (K.written out.new) (K.faults out.old) (K.faults out.new)) }
+    requires { IsRegular board.now.parts reply.now }
+    ensures ok { OnOk result (Appends (K.written out.old) (K.written out.new) (reply_text board.now.parts quiet reply.now)) }
+    ensures err { IfErr result (EndsSending (reply_text board.now.parts quiet reply.now) (K.written out.old) (K.written out.new) (K.faults out.old) (K.faults out.new)) }
     ensures never_falls { K.faults out.old ≤ K.faults out.new }
     ensures setup { K.setup out.new ≡ K.setup out.old }
 {
-    let text = reply_to(alloc, board, made, planes, command)?;
+    let text = print(alloc, board, reply, quiet)?;
     write_all(out, text.as_slice())?;
     Ok(())
 }
 
-/// Makes the reply to each command, and writes it before it begins the next. The planes of the board
-/// are of the type `P`, and are built once where a command needs them.
-pub fn answer_each<P: Plane, K: Sink>(
+/// The session, if all went well until now.
+fn go_on<P: Plane>(session: Session<P>, sent: Result<(), Ending>) -> Result<Session<P>, Ending>
+    ensures ok { IfOk result (λ s. (s ≡ session) × IsOk sent) }
+    ensures err { IfErr result (λ e. sent ≡ Err e) }
+{
+    match sent {
+        Ok(()) => Ok(session),
+        Err(ending) => Err(ending),
+    }
+}
+
+/// Makes the reply to one command and writes it. The session goes on from there.
+fn answer<P: Plane, K: Sink>(
     alloc: Global,
-    board: &Board,
-    commands: &[Command],
+    session: Session<P>,
+    command: Command,
+    quiet: bool,
     out: &mut K,
-) -> Result<(), Ending>
-    requires { All (HasForm board.now.parts) commands.now }
-    ensures ok { OnOk result (AnswersAll board.now.parts commands.now (K.written out.old) (K.written out.new)) }
-    ensures err { IfErr result (EndsAnswers board.now.parts commands.now (K.written out.old) (K.written out.new) (K.faults out.old) (K.faults out.new)) }
+) -> Result<Session<P>, Ending>
+    requires known { IsCommandOf session.parts command }
+    ensures board { IfOk result (λ s. s.parts ≡ session.parts) }
+    ensures ok { IfOk result (λ s. AnswersOne session.parts quiet session.lists command s.lists (K.written out.old) (K.written out.new)) }
+    ensures err { IfErr result (EndsAnswer session.parts quiet session.lists command (K.written out.old) (K.written out.new) (K.faults out.old) (K.faults out.new)) }
     ensures never_falls { K.faults out.old ≤ K.faults out.new }
     ensures setup { K.setup out.new ≡ K.setup out.old }
 {
-    let made = Made::none(alloc, board)?;
-    let mut planes: Option<PlaneSet<P>> = None;
+    let (next, reply) = session.apply(alloc, &command)?;
+    let sent = send(alloc, next.board(), &reply, quiet, out);
+    go_on(next, sent)
+}
+
+/// Makes the reply to each command, from a session on the board in which nothing is made, and writes
+/// it before it begins the next.
+pub fn answer_each<P: Plane, K: Sink>(
+    alloc: Global,
+    board: Board,
+    commands: &[Command],
+    quiet: bool,
+    out: &mut K,
+) -> Result<(), Ending>
+    requires { All (IsCommandOf board.parts) commands.now }
+    ensures ok { OnOk result (AnswersAll board.parts quiet commands.now (K.written out.old) (K.written out.new)) }
+    ensures err { IfErr result (EndsAnswers board.parts quiet commands.now (K.written out.old) (K.written out.new) (K.faults out.old) (K.faults out.new)) }
+    ensures never_falls { K.faults out.old ≤ K.faults out.new }
+    ensures setup { K.setup out.new ≡ K.setup out.old }
+{
+    let mut session = Session::<P>::start(alloc, board)?;
     for command in commands {
-        let ready = planes_for(alloc, board, *command, planes)?;
-        answer(alloc, board, &made, &ready, *command, out)?;
-        planes = ready;
+        session = answer(alloc, session, *command, quiet, out)?;
     }
     Ok(())
 }

@@ -1,51 +1,119 @@
 ghost use Rattle.std.specs.Prelude.{◌≡◌, ◌≤◌, ◌↔◌, ◌⊎◌, [], map, string_bytes, All, OnOk, IfErr};
-ghost use Rattle.io_edge.specs.Streams.{Rose, IsToldAs};
-ghost use Rattle.board_reader.specs.Built.{HasForm};
+ghost use Rattle.io_edge.specs.Streams.{Appends, Rose, IsToldAs};
+ghost use Rattle.board_gen.specs.Generated.{generated};
+ghost use Rattle.board_model.specs.Commands.{IsCommandOf};
 ghost use Rattle.contour.specs.Answers.{AnswersAll};
-ghost use Rattle.contour.specs.Causes.{AnswersInput, AnswersNoneOrFirst, CutsInputShort, EndsCall, IsBeforeReplies, IsUnwritten, TellsStatus};
-ghost use Rattle.contour.specs.Endings.{EndsAnswers};
-ghost use Rattle.contour.specs.Inputs.{IfTold, IsToldAnd, IsAccepted, IsRefused};
-ghost use Rattle.contour.specs.Requests.{IsRequest, IsNoRequest};
+ghost use Rattle.contour.specs.Causes.{EndsAttempt, EndsCall, HasBeenCut, HasDone, HasFoundWrong, HasRead, HasRunOut, IsBeforeReplies, IsUnwritten, MustAccept, MustRefuse, Refuses, TellsStatus};
+ghost use Rattle.contour.specs.Endings.{EndsAnswers, EndsSending};
+ghost use Rattle.contour.specs.Requests.{IsGood, IsNoRequest, IsRequestThat, IsSize, ReadsInput};
+ghost use Rattle.contour.specs.Texts.{right_text};
 
 use crate::answers::answer_each;
+use crate::checks::check_text;
 use crate::endings::{Ending, Status};
-use crate::inputs::read_text;
-use crate::lines::tell;
+use crate::inputs::{MAX_INPUT, read_text};
+use crate::lines::{right_line, tell};
 use crate::requests::{Request, request_of};
+use board_gen::generate;
 use board_model::{Board, Command};
 use flat_plane::FlatPlane;
-use io_edge::{Sink, Source};
+use io_edge::{Sink, Source, read_all, write_all};
 use std::alloc::Global;
 
-/// Makes the reply to each command from flat planes, and writes it before it begins the next.
+/// Makes the reply to each command over flat planes, and writes it before it begins the next.
 fn answer_all<K: Sink>(
     alloc: Global,
-    board: &Board,
+    board: Board,
     commands: &[Command],
+    quiet: bool,
     out: &mut K,
 ) -> Result<(), Ending>
-    requires { All (HasForm board.now.parts) commands.now }
-    ensures ok { OnOk result (AnswersAll board.now.parts commands.now (K.written out.old) (K.written out.new)) }
-    ensures err { IfErr result (EndsAnswers board.now.parts commands.now (K.written out.old) (K.written out.new) (K.faults out.old) (K.faults out.new)) }
+    requires { All (IsCommandOf board.parts) commands.now }
+    ensures ok { OnOk result (AnswersAll board.parts quiet commands.now (K.written out.old) (K.written out.new)) }
+    ensures err { IfErr result (EndsAnswers board.parts quiet commands.now (K.written out.old) (K.written out.new) (K.faults out.old) (K.faults out.new)) }
     ensures never_falls { K.faults out.old ≤ K.faults out.new }
     ensures setup { K.setup out.new ≡ K.setup out.old }
 {
-    answer_each::<FlatPlane, K>(alloc, board, commands, out)
+    answer_each::<FlatPlane, K>(alloc, board, commands, quiet, out)
 }
 
 /// Reads a board text and writes the reply to each of its commands.
-fn run<S: Source, K: Sink>(alloc: Global, source: &mut S, out: &mut K) -> Result<(), Ending>
-    ensures done { OnOk result (IfTold (S.left source.old) (AnswersInput (K.written out.old) (K.written out.new))) }
+fn run<S: Source, K: Sink>(
+    alloc: Global,
+    quiet: bool,
+    source: &mut S,
+    out: &mut K,
+) -> Result<(), Ending>
+    ensures done { OnOk result (HasDone (S.left source.old) (K.written out.old) (K.written out.new) (Request.Run quiet)) }
     ensures end { OnOk result (IsToldAs (S.left source.new) []) }
-    ensures err { IfErr result (EndsCall (S.left source.old) (S.faults source.old) (S.faults source.new)
+    ensures err { IfErr result (EndsCall (Request.Run quiet) (S.left source.old) (S.faults source.old) (S.faults source.new)
         (K.written out.old) (K.written out.new) (K.faults out.old) (K.faults out.new)) }
-    ensures words { IfErr result (λ e. e ≡ Ending.BadWords → ⊥) }
     ensures unwritten { IfErr result (λ e. IsBeforeReplies e → out.new ≡ out.old) }
     ensures source_setup { S.setup source.new ≡ S.setup source.old }
     ensures sink_setup { K.setup out.new ≡ K.setup out.old }
 {
     let input = read_text(alloc, source)?;
-    answer_all(alloc, &input.board, input.commands.as_slice(), out)
+    answer_all(alloc, input.board, input.commands.as_slice(), quiet, out)
+}
+
+/// Writes the line that says how many replies are right.
+fn tell_right<K: Sink>(alloc: Global, count: u64, out: &mut K) -> Result<(), Ending>
+    ensures ok { OnOk result (Appends (K.written out.old) (K.written out.new) (right_text count)) }
+    ensures err { IfErr result (EndsSending (right_text count) (K.written out.old) (K.written out.new) (K.faults out.old) (K.faults out.new)) }
+    ensures setup { K.setup out.new ≡ K.setup out.old }
+{
+    write_all(out, right_line(alloc, count).as_slice())?;
+    Ok(())
+}
+
+/// Reads a board text and the text of replies, and says how many are right.
+fn check<S: Source, K: Sink>(alloc: Global, source: &mut S, out: &mut K) -> Result<(), Ending>
+    ensures done { OnOk result (HasDone (S.left source.old) (K.written out.old) (K.written out.new) Request.Check) }
+    ensures end { OnOk result (IsToldAs (S.left source.new) []) }
+    ensures err { IfErr result (EndsCall Request.Check (S.left source.old) (S.faults source.old) (S.faults source.new)
+        (K.written out.old) (K.written out.new) (K.faults out.old) (K.faults out.new)) }
+    ensures unwritten { IfErr result (λ e. IsBeforeReplies e → out.new ≡ out.old) }
+    ensures source_setup { S.setup source.new ≡ S.setup source.old }
+    ensures sink_setup { K.setup out.new ≡ K.setup out.old }
+{
+    let bytes = read_all(alloc, source, MAX_INPUT)?;
+    let count = check_text(alloc, bytes.as_slice())?;
+    tell_right(alloc, count, out)
+}
+
+/// Writes a generated board text.
+fn write_generated<K: Sink>(alloc: Global, n: u32, out: &mut K) -> Result<(), Ending>
+    requires { IsSize n }
+    ensures ok { OnOk result (Appends (K.written out.old) (K.written out.new) (generated n)) }
+    ensures err { IfErr result (EndsSending (generated n) (K.written out.old) (K.written out.new) (K.faults out.old) (K.faults out.new)) }
+    ensures setup { K.setup out.new ≡ K.setup out.old }
+{
+    let text = generate(alloc, n)?;
+    write_all(out, text.as_slice())?;
+    Ok(())
+}
+
+/// Does what a request asks for.
+fn fulfil<S: Source, K: Sink>(
+    alloc: Global,
+    request: Request,
+    source: &mut S,
+    out: &mut K,
+) -> Result<(), Ending>
+    requires { IsGood request }
+    ensures done { OnOk result (HasDone (S.left source.old) (K.written out.old) (K.written out.new) request) }
+    ensures read { OnOk result (HasRead (S.left source.old) (S.left source.new) request) }
+    ensures err { IfErr result (EndsCall request (S.left source.old) (S.faults source.old) (S.faults source.new)
+        (K.written out.old) (K.written out.new) (K.faults out.old) (K.faults out.new)) }
+    ensures unwritten { IfErr result (λ e. IsBeforeReplies e → out.new ≡ out.old) }
+    ensures source_setup { S.setup source.new ≡ S.setup source.old }
+    ensures sink_setup { K.setup out.new ≡ K.setup out.old }
+{
+    match request {
+        Request::Run { quiet } => run(alloc, quiet, source, out),
+        Request::Check => check(alloc, source, out),
+        Request::Gen(n) => write_generated(alloc, n, out),
+    }
 }
 
 /// Does what the words ask for.
@@ -55,19 +123,18 @@ fn attempt<S: Source, K: Sink>(
     source: &mut S,
     out: &mut K,
 ) -> Result<(), Ending>
-    ensures request { OnOk result (IsNoRequest (map string_bytes words.now) → ⊥) }
-    ensures done { OnOk result (IfTold (S.left source.old) (AnswersInput (K.written out.old) (K.written out.new))) }
-    ensures end { OnOk result (IsToldAs (S.left source.new) []) }
-    ensures err { IfErr result (EndsCall (S.left source.old) (S.faults source.old) (S.faults source.new)
+    ensures done { OnOk result (IsRequestThat (map string_bytes words.now)
+        (HasDone (S.left source.old) (K.written out.old) (K.written out.new))) }
+    ensures read { OnOk result (IsRequestThat (map string_bytes words.now) (HasRead (S.left source.old) (S.left source.new))) }
+    ensures err { IfErr result (EndsAttempt (map string_bytes words.now) (S.left source.old) (S.faults source.old) (S.faults source.new)
         (K.written out.old) (K.written out.new) (K.faults out.old) (K.faults out.new)) }
-    ensures words { IfErr result (λ e. (e ≡ Ending.BadWords) ↔ IsNoRequest (map string_bytes words.now)) }
     ensures unread { IfErr result (λ e. e ≡ Ending.BadWords → source.new ≡ source.old) }
     ensures unwritten { IfErr result (λ e. IsBeforeReplies e → out.new ≡ out.old) }
     ensures source_setup { S.setup source.new ≡ S.setup source.old }
     ensures sink_setup { K.setup out.new ≡ K.setup out.old }
 {
     match request_of(words) {
-        Some(Request::Run) => run(alloc, source, out),
+        Some(request) => fulfil(alloc, request, source, out),
         None => Err(Ending::BadWords),
     }
 }
@@ -85,38 +152,41 @@ pub fn contour<S: Source, K: Sink, E: Sink>(
     out: &mut K,
     err: &mut E,
 ) -> Status
-    // All was read: a board text, to the end of the source. Its replies were written and nothing else.
-    ensures done { result ≡ Status.Done
-        → IfTold (S.left source.old) (AnswersInput (K.written out.old) (K.written out.new)) }
-    ensures end { result ≡ Status.Done → IsToldAs (S.left source.new) [] }
+    // What the words ask for was done. Of `run`: all was read, a board text, to the end of the source, and
+    // the replies to its commands were written and nothing else. Of `check`: all was read, and the
+    // replies after the board text are right. Of `gen`: nothing was read, and the text was written.
+    ensures done { result ≡ Status.Done → IsRequestThat (map string_bytes words.now)
+        (HasDone (S.left source.old) (K.written out.old) (K.written out.new)) }
+    ensures read { result ≡ Status.Done → IsRequestThat (map string_bytes words.now)
+        (HasRead (S.left source.old) (S.left source.new)) }
 
     // The words are no request, and nothing was read or written.
     ensures bad_words { (result ≡ Status.BadWords) ↔ IsNoRequest (map string_bytes words.now) }
     ensures unread { result ≡ Status.BadWords → source.new ≡ source.old }
 
     // The input is too long or no board text. Each fault is one of the stream that is named.
-    ensures bad_input { result ≡ Status.BadInput → IfTold (S.left source.old) IsRefused }
-    ensures read_fault { result ≡ Status.ReadFault → Rose (S.faults source.old) (S.faults source.new) }
+    ensures bad_input { result ≡ Status.BadInput → IsRequestThat (map string_bytes words.now) (Refuses (S.left source.old)) }
+    ensures read_fault { result ≡ Status.ReadFault → IsRequestThat (map string_bytes words.now) ReadsInput × Rose (S.faults source.old) (S.faults source.new) }
     ensures write_fault { result ≡ Status.WriteFault → Rose (K.faults out.old) (K.faults out.new) }
-    ensures never_wrong { result ≡ Status.Wrong → ⊥ }
+    ensures wrong { result ≡ Status.Wrong → IsRequestThat (map string_bytes words.now) (HasFoundWrong (S.left source.old)) }
 
     // What was written when the call ended early: nothing, or whole replies to the first commands,
     // and at a fault of the output then a part of the next.
     ensures unwritten { IsUnwritten result → out.new ≡ out.old }
-    ensures cut_short { result ≡ Status.WriteFault
-        → IfTold (S.left source.old) (CutsInputShort (K.written out.old) (K.written out.new)) }
-    ensures no_memory { result ≡ Status.NoMemory
-        → IfTold (S.left source.old) (AnswersNoneOrFirst (K.written out.old) (K.written out.new)) }
+    ensures cut_short { result ≡ Status.WriteFault → IsRequestThat (map string_bytes words.now)
+        (HasBeenCut (S.left source.old) (K.written out.old) (K.written out.new)) }
+    ensures no_memory { result ≡ Status.NoMemory → IsRequestThat (map string_bytes words.now)
+        (HasRunOut (S.left source.old) (K.written out.old) (K.written out.new)) }
 
     // An input that is not accepted is refused, and one that is accepted is answered, where no
     // stream has a fault and there is memory.
-    ensures refuses { IsRequest (map string_bytes words.now) → IsToldAnd (S.left source.old) IsRefused
+    ensures refuses { IsRequestThat (map string_bytes words.now) (MustRefuse (S.left source.old))
         → (Rose (S.faults source.old) (S.faults source.new) → ⊥)
         → (result ≡ Status.BadInput) ⊎ (result ≡ Status.NoMemory) }
-    ensures complete { IsRequest (map string_bytes words.now) → IsToldAnd (S.left source.old) IsAccepted
+    ensures complete { IsRequestThat (map string_bytes words.now) (MustAccept (S.left source.old))
         → (Rose (S.faults source.old) (S.faults source.new) → ⊥)
         → (Rose (K.faults out.old) (K.faults out.new) → ⊥)
-        → (result ≡ Status.Done) ⊎ (result ≡ Status.NoMemory) }
+        → (result ≡ Status.Done) ⊎ ((result ≡ Status.Wrong) ⊎ (result ≡ Status.NoMemory)) }
 
     // What no call changes of the two streams.
     ensures source_setup { S.setup source.new ≡ S.setup source.old }
@@ -124,7 +194,7 @@ pub fn contour<S: Source, K: Sink, E: Sink>(
 
     // The line on `err`.
     ensures quiet { result ≡ Status.Done → err.new ≡ err.old }
-    ensures line { (result ≡ Status.Done → ⊥) → TellsStatus result (S.left source.old)
+    ensures line { (result ≡ Status.Done → ⊥) → TellsStatus result (map string_bytes words.now) (S.left source.old)
         (E.written err.old) (E.written err.new) (E.faults err.old) (E.faults err.new) }
 {
     match attempt(alloc, words, source, out) {

@@ -75,5 +75,7 @@ pin D8  24850 8350 25150 8650  top top
 pin D9  24850 9000 25150 9300  top top
 pin VCC 24850 9650 25150 9950  top top
 end
+route D4
+all
 rules
 ";

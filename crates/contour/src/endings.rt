@@ -30,6 +30,8 @@ pub enum Ending {
     BadWords,
     TooLong,
     Refused(Refusal),
+    /// The reply of this number, from 1, is the first that is wrong.
+    Wrong(u64),
     ReadFault,
     WriteFault,
     NoMemory,
@@ -44,6 +46,7 @@ impl Ending {
             Ending::BadWords => Status::BadWords,
             Ending::TooLong => Status::BadInput,
             Ending::Refused(_) => Status::BadInput,
+            Ending::Wrong(_) => Status::Wrong,
             Ending::ReadFault => Status::ReadFault,
             Ending::WriteFault => Status::WriteFault,
             Ending::NoMemory => Status::NoMemory,

@@ -1,6 +1,6 @@
-ghost use Rattle.std.specs.Prelude.{◌≡◌, ◌+◌, ◌≤◌, ◌⊎◌, [], map, string_bytes, drop, length};
-ghost use Rattle.contour.specs.Inputs.{IsAccepted, IsRefused};
-ghost use Rattle.contour.specs.Requests.{IsRequest};
+ghost use Rattle.std.specs.Prelude.{◌≡◌, ◌+◌, ◌≤◌, ◌⊎◌, [], map, string_bytes, Some, drop, length};
+ghost use Rattle.contour.specs.Causes.{MustAccept, MustRefuse};
+ghost use Rattle.contour.specs.Requests.{IsRequestThat};
 
 use crate::calls::contour;
 use crate::endings::Status;
@@ -17,14 +17,13 @@ pub fn contour_in_memory<E: Sink>(
     out: &mut MemSink,
     err: &mut E,
 ) -> Status
-    requires request { IsRequest (map string_bytes words.now) }
     requires sound_source { source.old.fails ≡ [] }
     requires sound_sink { out.old.fails ≡ [] }
-    ensures refuses { IsRefused (drop source.old.place source.old.bytes)
+    ensures refuses { IsRequestThat (map string_bytes words.now) (MustRefuse (Some (drop source.old.place source.old.bytes)))
         → (result ≡ Status.BadInput) ⊎ (result ≡ Status.NoMemory) }
-    ensures complete { IsAccepted (drop source.old.place source.old.bytes)
+    ensures complete { IsRequestThat (map string_bytes words.now) (MustAccept (Some (drop source.old.place source.old.bytes)))
         → length out.new.held.items + out.new.most ≤ out.new.room
-        → (result ≡ Status.Done) ⊎ (result ≡ Status.NoMemory) }
+        → (result ≡ Status.Done) ⊎ ((result ≡ Status.Wrong) ⊎ (result ≡ Status.NoMemory)) }
 {
     contour(alloc, words, source, out, err)
 }

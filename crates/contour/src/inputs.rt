@@ -1,6 +1,6 @@
 ghost use Rattle.std.specs.Prelude.{◌≡◌, [], ◌≤◌, All, OnOk, IfOk, IfErr};
 ghost use Rattle.io_edge.specs.Streams.{IsToldAs};
-ghost use Rattle.board_reader.specs.Built.{HasForm};
+ghost use Rattle.board_model.specs.Commands.{IsCommandOf};
 ghost use Rattle.board_reader.specs.Contract.{told_by};
 ghost use Rattle.contour.specs.Endings.{EndsReading};
 ghost use Rattle.contour.specs.Inputs.{IfTold, IsAcceptedAs};
@@ -17,7 +17,7 @@ pub const MAX_INPUT: usize = 268_435_456;
 pub fn read_text<S: Source>(alloc: Global, source: &mut S) -> Result<Input, Ending>
     ensures ok { IfOk result (λ input. IfTold (S.left source.old) (IsAcceptedAs (told_by input))) }
     ensures end { OnOk result (IsToldAs (S.left source.new) []) }
-    ensures built { IfOk result (λ input. All (HasForm input.board.parts) input.commands) }
+    ensures commands { IfOk result (λ input. All (IsCommandOf input.board.parts) input.commands) }
     ensures err { IfErr result (EndsReading (S.left source.old) (S.faults source.old) (S.faults source.new)) }
     ensures never_falls { S.faults source.old ≤ S.faults source.new }
     ensures setup { S.setup source.new ≡ S.setup source.old }

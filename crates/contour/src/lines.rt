@@ -2,6 +2,7 @@ ghost use Rattle.std.specs.Prelude.{◌≡◌, ◌≤◌, ◌++◌, length};
 ghost use Rattle.smallvec.specs.SmallVec.{HasRoomFor};
 ghost use Rattle.contour.specs.Endings.{line_of};
 ghost use Rattle.contour.specs.Causes.{TellsLine};
+ghost use Rattle.contour.specs.Texts.{right_text};
 
 use crate::endings::Ending;
 use board_reader::Refusal;
@@ -10,8 +11,8 @@ use itoa::Buffer;
 use smallvec::SmallVec;
 use std::alloc::Global;
 
-/// Room for the one line on standard error, which so takes no memory.
-type Line = SmallVec<u8, 64>;
+/// Room for one line, which so takes no memory.
+pub type Line = SmallVec<u8, 64>;
 
 /// Adds bytes for which the line has room.
 fn add(line: &mut Line, bytes: &[u8])
@@ -38,6 +39,30 @@ fn refusal_line(alloc: Global, refusal: Refusal) -> Line
     line
 }
 
+/// The line that says which reply is the first that is wrong.
+fn wrong_line(alloc: Global, number: u64) -> Line
+    ensures { result.items ≡ line_of (Ending.Wrong number) }
+{
+    let mut digits = Buffer::new();
+    let mut line = Line::new(alloc);
+    add(&mut line, b"wrong reply ");
+    add(&mut line, digits.format(number).as_bytes());
+    add(&mut line, b"\n");
+    line
+}
+
+/// The line that says how many replies are right.
+pub fn right_line(alloc: Global, count: u64) -> Line
+    ensures { result.items ≡ right_text count }
+{
+    let mut digits = Buffer::new();
+    let mut line = Line::new(alloc);
+    add(&mut line, b"right ");
+    add(&mut line, digits.format(count).as_bytes());
+    add(&mut line, b"\n");
+    line
+}
+
 /// A line that is the same for each ending of its sort.
 fn fixed_line(alloc: Global, text: &[u8]) -> Line
     requires { length text.now ≤ 64 }
@@ -59,6 +84,7 @@ fn line(alloc: Global, ending: Ending) -> Line
         ),
         Ending::TooLong => fixed_line(alloc, b"too long\n"),
         Ending::Refused(refusal) => refusal_line(alloc, refusal),
+        Ending::Wrong(number) => wrong_line(alloc, number),
         Ending::ReadFault => fixed_line(alloc, b"read fault\n"),
         Ending::WriteFault => fixed_line(alloc, b"write fault\n"),
         Ending::NoMemory => fixed_line(alloc, b"no memory\n"),

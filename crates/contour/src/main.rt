@@ -4,6 +4,9 @@
 mod answers;
 mod calls;
 #[cfg(test)]
+mod check_tests;
+mod checks;
+#[cfg(test)]
 mod connector;
 mod endings;
 mod in_memory;
@@ -11,11 +14,11 @@ mod inputs;
 mod lines;
 #[cfg(test)]
 mod reader_tests;
-mod replies;
 mod requests;
 #[cfg(test)]
+mod route_tests;
+#[cfg(test)]
 mod tests;
-mod texts;
 
 use crate::calls::contour;
 use crate::endings::Status;

@@ -1,7 +1,7 @@
 //! The reader of board texts: refusals by line and kind, and whole boards.
 
 use crate::connector::CONNECTOR;
-use board_reader::{Input, ReadInput, read_input};
+use board_reader::{Input, ReadInput, read_input, split_check};
 use std::alloc::{AllocError, Global};
 use std::process::Abort;
 use std::test::Fail;
@@ -37,7 +37,25 @@ const CASES: &str = "4 4 8 8|
 3 3 3 6|layer top;
 7 7 7 3|pin a 4 9 -6 11 top top;
 10 10 10 7|net b sig;
-10 10 10 2|route a;
+10 10 0 0|route a;all;rip a;show a;
+10 10 10 5|route z;
+10 10 10 5|rip z;
+10 10 10 5|show z;
+10 10 10 5|route sig;
+10 10 10 2|route;
+10 10 10 2|route a a;
+10 10 10 2|all a;
+10 10 10 2|rip;
+10 10 10 2|rip a a;
+10 10 10 2|show;
+10 10 10 2|show a a;
+10 10 10 2|Route a;
+6 6 6 7|route a;
+6 6 6 7|all;
+6 6 6 7|rip z;
+6 6 6 7|show a;
+6 6 6 2|show;
+10 10 11 5|all;show b;
 10 10 0 0|
 5 5 0 0|# any \u{e9} bytes;; \t;
 5 5 5 1|\r# not at the start;
@@ -82,7 +100,8 @@ const CASES: &str = "4 4 8 8|
 9 10 9 9|
 9 10 0 0|end
 9 10 0 0|end;
-9 10 10 2|end;route a;
+9 10 0 0|end;route a;
+9 10 10 2|end;replies;
 10 10 0 0|strips top sig;rules;strips top sig;
 5 5 5 7|strips top sig;
 5 5 5 7|strips low power;
@@ -96,7 +115,7 @@ const CASES: &str = "4 4 8 8|
 10 10 11 5|strips top sig;strips a sig;";
 
 /// Adds a text in which a mark stands for the end of a line.
-fn add(bytes: &mut Vec<u8>, text: &str, mark: u8, end: &[u8]) -> Result<(), AllocError> {
+pub fn add(bytes: &mut Vec<u8>, text: &str, mark: u8, end: &[u8]) -> Result<(), AllocError> {
     for byte in text.bytes() {
         if byte == mark {
             bytes.extend_from_slice(end)?;
@@ -108,7 +127,7 @@ fn add(bytes: &mut Vec<u8>, text: &str, mark: u8, end: &[u8]) -> Result<(), Allo
 }
 
 /// The small board with a text for the lines `first` to `last`, counted from 1.
-fn changed(alloc: Global, first: u64, last: u64, text: &str) -> Result<Vec<u8>, AllocError> {
+pub fn changed(alloc: Global, first: u64, last: u64, text: &str) -> Result<Vec<u8>, AllocError> {
     let mut bytes = Vec::new(alloc);
     for (index, line) in LINES.iter().enumerate() {
         let number = index as u64 + 1;
@@ -152,6 +171,46 @@ fn tells_the_first_line_and_kind(rt: HostRuntime) -> Result<(), Fail> {
     Ok(())
 }
 
+/// Texts in which the replies are sought, one a line. The numbers are how many bytes stand before the
+/// line `replies` and before what follows it, and its number, or zeros where there is no such line.
+const SPLITS: &str = "4 12 2|end;replies;rules 0;
+4 11 2|end;replies
+0 8 1|replies;replies;
+4 16 2|end; \treplies \r;all 0;
+9 17 4|# a;;rep;replies;
+0 0 0|
+0 0 0|end;rules;
+0 0 0|end;replies\r\r;
+0 0 0|# replies;
+0 0 0|replies now;now replies;Replies;repliess;replie;";
+
+/// The ends and the line of a cut, and zeros where there is none.
+fn cut_of(bytes: &[u8]) -> (u64, u64, u64) {
+    match split_check(bytes) {
+        Some(split) => (
+            split.text_end as u64,
+            split.replies_start as u64,
+            split.lines,
+        ),
+        None => (0, 0, 0),
+    }
+}
+
+#[test]
+fn cuts_at_the_first_line_of_replies(rt: HostRuntime) -> Result<(), Fail> {
+    for case in SPLITS.split('\n') {
+        let (numbers, text) = case.split_once('|').ok_or("a case has a text")?;
+        let mut numbers = numbers.split(' ');
+        let end = number(numbers.next())?;
+        let start = number(numbers.next())?;
+        let line = number(numbers.next())?;
+        let mut bytes = Vec::new(rt.alloc());
+        add(&mut bytes, text, b';', b"\n")?;
+        assert_eq!(rt; cut_of(&bytes), (end, start, line), "{case}");
+    }
+    Ok(())
+}
+
 /// How many layers, kinds of vias, nets, pins, blockages and commands there are.
 fn counts(input: &Input) -> [usize; 6] {
     let board = &input.board;
@@ -174,9 +233,10 @@ fn holds(rt: &impl Abort, input: &Input, name: &str, sides: (i32, i32), numbers:
 
 #[test]
 fn reads_a_board(rt: HostRuntime) -> Result<(), Fail> {
-    let bytes = changed(rt.alloc(), 10, 10, "rules;strips top sig;")?;
+    let text = "rules;strips top sig;route a;all;rip a;show a;";
+    let bytes = changed(rt.alloc(), 10, 10, text)?;
     match read_input(rt.alloc(), &bytes) {
-        Ok(input) => holds(&rt, &input, "demo", (40, 20), [1, 0, 1, 2, 1, 2]),
+        Ok(input) => holds(&rt, &input, "demo", (40, 20), [1, 0, 1, 2, 1, 6]),
         Err(_) => return Err("the text is read".into()),
     }
     Ok(())
@@ -187,7 +247,7 @@ fn reads_lines_with_carriage_returns(rt: HostRuntime) -> Result<(), Fail> {
     let mut bytes = Vec::new(rt.alloc());
     add(&mut bytes, CONNECTOR, b'\n', b"\r\n")?;
     match read_input(rt.alloc(), &bytes) {
-        Ok(input) => holds(&rt, &input, "J1-U3", (30000, 12500), [4, 3, 12, 24, 8, 1]),
+        Ok(input) => holds(&rt, &input, "J1-U3", (30000, 12500), [4, 3, 12, 24, 8, 3]),
         Err(_) => return Err("the text is read".into()),
     }
     Ok(())

@@ -60,7 +60,7 @@ many 0 20 40 20
 const USAGE: &str = "usage: contour run [--quiet] / check / gen N / demo N\n";
 
 /// A text with one of its lines, counted from 1, replaced or, by an empty text, left out.
-fn with_line(alloc: Global, text: &str, number: usize, line: &str) -> Result<String, Fail> {
+pub fn with_line(alloc: Global, text: &str, number: usize, line: &str) -> Result<String, Fail> {
     let mut changed = String::new(alloc);
     for (i, old) in text.lines().enumerate() {
         let kept = if i + 1 == number { line } else { old };
@@ -91,7 +91,7 @@ fn words_of(alloc: Global, words: &[&str]) -> Result<Vec<String>, Fail> {
 }
 
 /// Runs the program and looks at its status, its output and its line on standard error.
-fn expect(
+pub fn expect(
     rt: &(impl Abort + AllocGlobal),
     words: &[&str],
     text: &str,
@@ -161,7 +161,7 @@ fn the_strips_of_a_plane_are_listed(rt: HostRuntime) -> Result<(), Fail> {
 fn a_refused_text_is_named_by_its_line(rt: HostRuntime) -> Result<(), Fail> {
     let alloc = rt.alloc();
     for (number, line, err) in [
-        (10, "route a", "line 10 kind 2\n"),
+        (10, "route z", "line 10 kind 5\n"),
         (4, "", "line 8 kind 8\n"),
         (8, "pin a 34 9 41 11 top top", "line 8 kind 4\n"),
         (4, "rule top sig 1 0", "line 4 kind 4\n"),
@@ -190,14 +190,19 @@ fn a_refused_text_is_named_by_its_line(rt: HostRuntime) -> Result<(), Fail> {
 
 #[test]
 fn other_words_are_refused(rt: HostRuntime) -> Result<(), Fail> {
-    let rows: [&[&str]; 12] = [
+    let rows: [&[&str]; 17] = [
         &[],
         &["go"],
         &["run", "run"],
         &["run", "x"],
         &["run", "--quiet", "--quiet"],
         &["--quiet", "run"],
+        &["--quiet"],
         &["gen"],
+        &["gen", "+5"],
+        &["gen", "5", "5"],
+        &["check", "x"],
+        &["demo"],
         &["gen", "0"],
         &["gen", "007"],
         &["gen", "2001"],
@@ -258,6 +263,7 @@ fn a_fault_of_err_changes_no_status(rt: HostRuntime) -> Result<(), Fail> {
     let alloc = rt.alloc();
     for (word, text, reads, writes, status) in [
         ("go", PLAIN, 0, 0, Status::BadWords),
+        ("check", PLAIN, 0, 0, Status::BadInput),
         ("run", "board", 0, 0, Status::BadInput),
         ("run", PLAIN, 1, 0, Status::ReadFault),
         ("run", PLAIN, 0, 1, Status::WriteFault),

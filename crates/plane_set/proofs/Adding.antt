@@ -10,10 +10,9 @@ use Rattle.board_model.specs.declared.shapes.Shape.{Shape}
 use Rattle.board_model.specs.Labels.{PlaneRule, Hits, does_hit, joined, with_shape}
 use Rattle.board_model.proofs.LabelLaws.{label_among-push}
 use Rattle.board_model.proofs.LabelTests.{Decides-does_hit}
-use Rattle.plane_core.specs.Labels.{label_of, IsPlane}
 use Rattle.plane_set.specs.Drawings.{Drawing, IsBoardArea, IsBoardPlane, Shows, HasOneMore}
-use Rattle.plane_set.specs.Joins.{IsJoined}
-use Rattle.plane_set.proofs.Joining.{lies_from_points}
+use Rattle.plane_set.specs.Joins.{HasShapeWithin, IsJoined}
+use Rattle.plane_set.proofs.Joining.{point_within}
 
 module _ (rule : PlaneRule) (s : Shape) where
   with_hit : (p : Point) (a : Label) → Hits rule p s → with_shape rule p a s ≡ joined a s.owner
@@ -23,7 +22,7 @@ module _ (rule : PlaneRule) (s : Shape) where
   with_miss p a n = cond-false (does_hit rule p s) _ _ (false_from_ne_true _ (λ e. n ((Decides-does_hit rule p s).0 e)))
 
   -- what is so where the shape hits, and where it does not
-  by_hit : (p : Point) (Q : Type 0) → (Hits rule p s → Q) → ((Hits rule p s → ⊥) → Q) → Q
+  pub by_hit : (p : Point) (Q : Type 0) → (Hits rule p s → Q) → ((Hits rule p s → ⊥) → Q) → Q
   by_hit p Q yes' no' =
       let test : (b : Bool) → does_hit rule p s ≡ b → Q = elim [
         | true ↦ λ e. yes' ((Decides-does_hit rule p s).0 e)
@@ -31,34 +30,23 @@ module _ (rule : PlaneRule) (s : Shape) where
       ] in
       test (does_hit rule p s) refl
 
-  -- a plane with no point that the shape hits
-  pub plane_missed : (d : Drawing) → IsPlane d.region d.strips → ((p : Point) → HasPoint d.region p → Hits rule p s → ⊥) → HasOneMore rule s d d
-  plane_missed d plane miss = record {
-    region = refl;
-    labels = λ p h. sym (with_miss p (label_of d.strips p) (miss p h));
-    canonical = plane;
+  pub missed_within : (domain area : Rect) (old : Point → Label) → ((p : Point) → HasPoint area p → Hits rule p s → ⊥) → HasShapeWithin domain area rule s old old
+  missed_within domain area old miss = record { within = λ p a. sym (with_miss p (old p) (miss p a)); elsewhere = λ p d n. refl }
+
+  pub apart_within : (domain area hit : Rect) (old : Point → Label) → ((p : Point) → HasPoint hit p ↔ Hits rule p s) → ShareNoPoint area hit → HasShapeWithin domain area rule s old old
+  apart_within domain area hit old hits apart = missed_within domain area old (λ p a h. apart p a ((hits p).1 h))
+
+  pub joined_within : (domain area hit piece : Rect) (old new : Point → Label) → LiesIn area domain
+      → ((p : Point) → HasPoint hit p ↔ Hits rule p s) → IsMeet area hit piece
+      → IsJoined domain piece s.owner old new
+      → HasShapeWithin domain area rule s old new
+  joined_within domain area hit piece old new inside hits meet h = record {
+    within = λ p a.
+        by_hit p (new p ≡ with_shape rule p (old p) s)
+        (λ k. h.within p (meet.all p a ((hits p).1 k)) ∙ sym (with_hit p (old p) k))
+        (λ n. h.elsewhere p (point_within area domain p inside a) (λ q. n ((hits p).0 (meet.second p q))) ∙ sym (with_miss p (old p) n));
+    elsewhere = λ p d n. h.elsewhere p d (λ q. n (meet.first p q));
   }
-
-  pub plane_apart : (d : Drawing) (domain hit : Rect) → domain ≡ d.region → IsPlane d.region d.strips → ((p : Point) → HasPoint hit p ↔ Hits rule p s) → ShareNoPoint domain hit → HasOneMore rule s d d
-  plane_apart d domain hit e plane hits apart =
-      plane_missed d plane (λ p h k. apart p (subst (λ (r : Rect). HasPoint r p) (sym e) h) ((hits p).1 k))
-
-  pub plane_joined : (old new : Drawing) (domain hit area : Rect) → domain ≡ old.region → ((p : Point) → HasPoint hit p ↔ Hits rule p s) → IsMeet domain hit area
-      → new.region ≡ old.region
-      → IsJoined old.region area s.owner (label_of old.strips) (label_of new.strips)
-      → IsPlane new.region new.strips
-      → HasOneMore rule s old new
-  plane_joined old new domain hit area e hits meet region h plane = record {
-    region = region;
-    labels = λ p inside.
-        by_hit p (label_of new.strips p ≡ with_shape rule p (label_of old.strips p) s)
-        (λ k. h.within p (meet.all p (subst (λ (r : Rect). HasPoint r p) (sym e) inside) ((hits p).1 k)) ∙ sym (with_hit p (label_of old.strips p) k))
-        (λ n. h.elsewhere p inside (λ a. n ((hits p).0 (meet.second p a))) ∙ sym (with_miss p (label_of old.strips p) n));
-    canonical = plane;
-  }
-
-pub area_inside : (domain region hit area : Rect) → domain ≡ region → IsMeet domain hit area → LiesIn area region
-area_inside domain region hit area e meet = subst (λ (r : Rect). LiesIn area r) e (lies_from_points area domain meet.first)
 
 -- a plane that shows some shapes shows one more
 pub shows_more : (b : BoardParts) (rule : PlaneRule) (shapes : List Shape) (s : Shape) (old new : Drawing) → HasOneMore rule s old new → Shows b rule shapes old → Shows b rule (shapes ++ s ∷ []) new

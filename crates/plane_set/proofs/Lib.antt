@@ -3,4 +3,5 @@ pub mod Admitting
 pub mod Barring
 pub mod Joining
 pub mod Places
+pub mod Relabelling
 pub mod Standing

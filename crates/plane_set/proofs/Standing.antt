@@ -1,16 +1,21 @@
 -- Rows of planes, and the same rows as contracts see them.
-use Rattle.std.proofs.Common.{◌≡◌, ℕ, ◌<◌, List, [], ◌∷◌, length, map, get_or, All, Some, refl, sym, ◌∙◌, ap, subst, arith}
-use Rattle.std.specs.Prelude.{slice_get}
-use Rattle.std.proofs.lemmas.Option.{slice_get-get_or, slice_get_read, get_or_from_slice_get}
+use Rattle.std.proofs.Common.{◌≡◌, ℕ, ◌<◌, ◌↔◌, List, [], ◌∷◌, length, map, get_or, All, Some, refl, sym, ◌∙◌, ap, subst, arith}
+use Rattle.std.specs.Prelude.{slice_get, Contains}
+use Rattle.std.proofs.lemmas.Option.{slice_get-get_or, slice_get_read, slice_get_within, get_or_from_slice_get}
 use Rattle.std.proofs.lemmas.List.{length-map}
 use Rattle.std.proofs.lemmas.List.Elements.{All-nil, All-cons, All-head, All-tail, All-map, All-weaker}
+use Rattle.geo_rect.specs.declared.shapes.Rect.{Rect}
 use Rattle.board_model.specs.declared.parts.BoardParts.{BoardParts}
 use Rattle.board_model.specs.declared.shapes.Shape.{Shape}
+use Rattle.board_model.specs.Labels.{PlaneRule}
+use Rattle.board_model.proofs.LabelLaws.{same_hits}
 use Rattle.plane_set.specs.declared.families.Family.{Family}
+use Rattle.plane_set.specs.declared.families.Family.TheVariants.{Wires, Vias}
 use Rattle.plane_set.specs.Drawings.{Drawing, drawn_rows, IsBoardArea, IsBoardPlane, Shows}
 use Rattle.plane_set.specs.Families.{rule_in, class_at, IsRow, AreRows, AreBoardPlanes, AreBoardRows, HaveAllClasses}
-use Rattle.plane_set.specs.Standing.{PlaneTable, HasPlanes}
-use Rattle.plane_set.proofs.Places.{each_mapped, each_unmapped, get_mapped}
+use Rattle.plane_set.specs.Relabelled.{IsRelabelled, IsRowRelabelled, AreRowsRelabelled}
+use Rattle.plane_set.specs.Standing.{PlaneTable, HasPlanes, StandsFor}
+use Rattle.plane_set.proofs.Places.{each_mapped, each_unmapped, each_beside, get_mapped, pairs_mapped}
 
 all_unmapped : {X Y : Type 0} (P : Y → Type 0) (f : X → Y) (xs : List X) → All P (map f xs) → All (λ x. P (f x)) xs
 all_unmapped P f [] h = All-nil (λ x. P (f x))
@@ -35,12 +40,31 @@ module _ {R A : Type 0} (planes_of : R → List A) (draw : A → Drawing) (b : B
       let shown = h n row e m plane k in
       record { region = shown.region; canonical = shown.canonical }
 
+  pub all_in : (rows : List R) → HaveAllClasses planes_of b rows → (n : ℕ) (row : R) → slice_get rows n ≡ Some row → length (planes_of row) ≡ length b.classes
+  all_in rows all n row e = ap (λ (r : R). length (planes_of r)) (sym (get_or_from_slice_get rows n row row e)) ∙ all n row (slice_get_within rows n row e)
+
   board_drawn : (rows : List R) → AreBoardRows planes_of draw b rows → AreBoardRows (λ (row : List Drawing). row) (λ (d : Drawing). d) b (drawn rows)
   board_drawn rows h =
       each_mapped (λ (row : R). map draw (planes_of row)) (λ n (row : List Drawing). AreBoardPlanes (λ (d : Drawing). d) b row) rows
       (λ n row e. each_mapped draw (λ c (d : Drawing). IsBoardPlane b d) (planes_of row) (h n row e))
 
-  pub board_undrawn : (rows : List R) → AreBoardRows (λ (row : List Drawing). row) (λ (d : Drawing). d) b (drawn rows) → AreBoardRows planes_of draw b rows
+  relabelled_drawn : (f : Family) (gone : Shape) (shapes : List Shape) (old new : List R) → AreRowsRelabelled planes_of draw b f gone shapes old new → AreRowsRelabelled (λ (row : List Drawing). row) (λ (d : Drawing). d) b f gone shapes (drawn old) (drawn new)
+  relabelled_drawn f gone shapes old new h =
+      pairs_mapped (λ (row : R). map draw (planes_of row)) (λ (row : R). map draw (planes_of row)) (λ n (x y : List Drawing). IsRowRelabelled (λ (d : Drawing). d) b f n gone shapes x y) old new
+      (λ n x y e k. pairs_mapped draw draw (λ c (d q : Drawing). IsRelabelled b (rule_in b f n (class_at c)) gone shapes d q) (planes_of x) (planes_of y) (h n x y e k))
+
+  -- planes of the board that are relabelled are planes of the board
+  pub board_relabelled : (f : Family) (gone : Shape) (shapes : List Shape) (old new : List R) → length new ≡ length old → HaveAllClasses planes_of b old → HaveAllClasses planes_of b new → AreRowsRelabelled planes_of draw b f gone shapes old new → AreBoardRows planes_of draw b old → AreBoardRows planes_of draw b new
+  board_relabelled f gone shapes old new count all_old all_new h board =
+      each_beside (λ n (x y : R). IsRowRelabelled draw b f n gone shapes (planes_of x) (planes_of y)) (λ n (row : R). AreBoardPlanes draw b (planes_of row)) (λ n (row : R). AreBoardPlanes draw b (planes_of row)) old new count
+      (λ n x y e k pairs planes.
+      each_beside (λ c (p q : A). IsRelabelled b (rule_in b f n (class_at c)) gone shapes (draw p) (draw q)) (λ c (p : A). IsBoardPlane b (draw p)) (λ c (p : A). IsBoardPlane b (draw p)) (planes_of x) (planes_of y)
+      (all_in new all_new n y k ∙ sym (all_in old all_old n x e))
+      (λ c p q d j again is. record { region = subst (λ (r : Rect). IsBoardArea b r) (sym again.region) is.region; canonical = again.canonical })
+      pairs planes)
+      h board
+
+  board_undrawn : (rows : List R) → AreBoardRows (λ (row : List Drawing). row) (λ (d : Drawing). d) b (drawn rows) → AreBoardRows planes_of draw b rows
   board_undrawn rows h n row e =
       each_unmapped draw (λ c (d : Drawing). IsBoardPlane b d) (planes_of row)
       (each_unmapped (λ (r : R). map draw (planes_of r)) (λ m (r : List Drawing). AreBoardPlanes (λ (d : Drawing). d) b r) rows h n row e)
@@ -50,10 +74,20 @@ module _ {R A : Type 0} (planes_of : R → List A) (draw : A → Drawing) (b : B
       All-map (λ (row : List Drawing). length row ≡ length b.classes) (λ (row : R). map draw (planes_of row)) rows
       (All-weaker (λ (row : R). length (planes_of row) ≡ length b.classes) (λ (row : R). length (map draw (planes_of row)) ≡ length b.classes) (λ row e. length-map (planes_of row) draw ∙ e) rows h)
 
-  pub classes_undrawn : (rows : List R) → HaveAllClasses (λ (row : List Drawing). row) b (drawn rows) → HaveAllClasses planes_of b rows
+  classes_undrawn : (rows : List R) → HaveAllClasses (λ (row : List Drawing). row) b (drawn rows) → HaveAllClasses planes_of b rows
   classes_undrawn rows h =
       All-weaker (λ (row : R). length (map draw (planes_of row)) ≡ length b.classes) (λ (row : R). length (planes_of row) ≡ length b.classes) (λ row e. sym (length-map (planes_of row) draw) ∙ e) rows
       (all_unmapped (λ (row : List Drawing). length row ≡ length b.classes) (λ (row : R). map draw (planes_of row)) rows h)
+
+  -- rows that are seen as this table
+  pub classes_seen : (rows : List R) (table : List (List Drawing)) → drawn rows ≡ table → HaveAllClasses (λ (row : List Drawing). row) b table → HaveAllClasses planes_of b rows
+  classes_seen rows table e h = classes_undrawn rows (subst (λ (t : List (List Drawing)). HaveAllClasses (λ (row : List Drawing). row) b t) (sym e) h)
+
+  pub board_seen : (rows : List R) (table : List (List Drawing)) → drawn rows ≡ table → AreBoardRows (λ (row : List Drawing). row) (λ (d : Drawing). d) b table → AreBoardRows planes_of draw b rows
+  board_seen rows table e h = board_undrawn rows (subst (λ (t : List (List Drawing)). AreBoardRows (λ (row : List Drawing). row) (λ (d : Drawing). d) b t) (sym e) h)
+
+  pub relabelled_seen : (f : Family) (gone : Shape) (shapes : List Shape) (old new : List R) (table : List (List Drawing)) → drawn old ≡ table → AreRowsRelabelled planes_of draw b f gone shapes old new → AreRowsRelabelled (λ (row : List Drawing). row) (λ (d : Drawing). d) b f gone shapes table (drawn new)
+  relabelled_seen f gone shapes old new table e h = subst (λ (t : List (List Drawing)). AreRowsRelabelled (λ (row : List Drawing). row) (λ (d : Drawing). d) b f gone shapes t (drawn new)) e (relabelled_drawn f gone shapes old new h)
 
   pub drawn_length : (rows : List R) → length (drawn rows) ≡ length rows
   drawn_length rows = length-map rows (λ (row : R). map draw (planes_of row))
@@ -94,3 +128,22 @@ module _ {R A : Type 0} (planes_of : R → List A) (draw : A → Drawing) (rows 
       let inside : m < length (planes_of row) = omega arith in
       subst (λ (r : List Drawing). slice_get r m ≡ Some (draw x)) (sym at)
       (get_mapped draw (planes_of row) m x (slice_get_read (planes_of row) (length (planes_of row)) m x refl inside d))
+
+-- planes that show shapes show each list with the same members
+module _ (b : BoardParts) (xs ys : List Shape) (same : (s : Shape) → Contains xs s ↔ Contains ys s) where
+  shows_members : (rule : PlaneRule) (d : Drawing) → Shows b rule xs d → Shows b rule ys d
+  shows_members rule d h = record {
+    region = h.region;
+    labels = λ p k. h.labels p k ∙ same_hits b rule p xs ys (λ s _. same s);
+    canonical = h.canonical;
+  }
+
+  rows_members : (f : Family) (rows : List (List Drawing)) → AreRows (λ (row : List Drawing). row) (λ (d : Drawing). d) b f xs rows → AreRows (λ (row : List Drawing). row) (λ (d : Drawing). d) b f ys rows
+  rows_members f rows h n row e m d k = shows_members (rule_in b f n (class_at m)) d (h n row e m d k)
+
+pub stands_for_members : (b : BoardParts) (xs ys : List Shape) (set : PlaneTable) → StandsFor b xs set → ((s : Shape) → Contains xs s ↔ Contains ys s) → StandsFor b ys set
+stands_for_members b xs ys set h same = record {
+  planes = h.planes;
+  wires = rows_members b xs ys same Wires set.wires h.wires;
+  vias = rows_members b xs ys same Vias set.vias h.vias;
+}

@@ -2,4 +2,5 @@ pub mod Drawings
 pub mod Families
 pub mod Joins
 pub mod Places
+pub mod Relabelled
 pub mod Standing

@@ -2,14 +2,17 @@
 
 ghost use Rattle.std.specs.Prelude.{◌≡◌, ◌<◌, ◌∷◌, ◌++◌, [], List, length, IfOk, vec_items};
 ghost use Rattle.board_model.specs.declared.shapes.Shape.{Shape as OneShape};
+ghost use Rattle.geo_rect.specs.Plane.{LiesIn};
 ghost use Rattle.board_model.specs.Known.{IsKnown};
+ghost use Rattle.plane_core.specs.Labels.{label_of, IsPlane};
 ghost use Rattle.plane_set.specs.Drawings.{drawing_by, HasOneMore};
 ghost use Rattle.plane_set.specs.Families.{rows_in, rule_in, IsRow, AreRows, AreBoardPlanes, AreBoardRows, HaveAllClasses};
+ghost use Rattle.plane_set.specs.Joins.{HasShapeWithin};
 
 use crate::families::Family;
 use crate::joins::paint_shape;
 use board_model::{Board, Shape};
-use geo_rect::{ClassId, NoMemory, meet};
+use geo_rect::{ClassId, NoMemory, Rect, meet};
 use plane_core::Plane;
 use std::alloc::Global;
 
@@ -29,11 +32,35 @@ pub fn add_to_plane<P: Plane>(
     ensures { IfOk result (λ new. HasOneMore (rule_in board.now.parts family row c) s.now (drawing_by P.region P.strips plane) (drawing_by P.region P.strips new)) }
 {
     let domain = plane.domain();
+    add_within(alloc, board, family, row, c, plane, domain, s)
+}
+
+/// Adds a shape to the plane of class `c` in a row of the family, but only to the points of `area`,
+/// a part of the plane.
+pub fn add_within<P: Plane>(
+    alloc: Global,
+    board: &Board,
+    family: Family,
+    row: u32,
+    c: ClassId,
+    plane: P,
+    area: Rect,
+    s: &Shape,
+) -> Result<P, NoMemory>
+    requires row { row < rows_in board.now.parts family }
+    requires class { c.0 < length board.now.parts.classes }
+    requires inside { LiesIn area (P.region plane) }
+    requires known { IsKnown board.now.parts s.now }
+    ensures region { IfOk result (λ new. P.region new ≡ P.region plane) }
+    ensures labels { IfOk result (λ new. HasShapeWithin (P.region plane) area (rule_in board.now.parts family row c) s.now (label_of (P.strips plane)) (label_of (P.strips new))) }
+    ensures canonical { IfOk result (λ new. IsPlane (P.region new) (P.strips new)) }
+{
+    let _domain = plane.domain();
     match family.hit_area(board, row, c, s) {
         None => Ok(plane),
-        Some(hit) => match meet(domain, hit) {
+        Some(hit) => match meet(area, hit) {
             None => Ok(plane),
-            Some(area) => paint_shape(alloc, plane, area, s.owner),
+            Some(piece) => paint_shape(alloc, plane, piece, s.owner),
         },
     }
 }

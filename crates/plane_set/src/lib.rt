@@ -9,9 +9,12 @@ mod builds;
 mod families;
 mod frames;
 mod joins;
+mod laws;
 mod passing;
+mod rests;
 mod sets;
 #[cfg(test)]
 mod tests;
 
+pub use laws::planes_ignore_order;
 pub use sets::PlaneSet;

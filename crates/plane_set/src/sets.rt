@@ -1,15 +1,17 @@
-ghost use Rattle.std.specs.Prelude.{◌≡◌, ◌<◌, ◌∷◌, ◌++◌, [], List, length, IfOk, Some, slice_get, slice_index_or};
+ghost use Rattle.std.specs.Prelude.{◌≡◌, ◌<◌, ◌∷◌, ◌++◌, [], List, length, All, IfOk, IsSome, Some, slice_get, slice_index_or};
 ghost use Rattle.board_model.specs.declared.shapes.Shape.{Shape as OneShape};
 ghost use Rattle.board_model.specs.declared.parts.BoardParts.{BoardParts};
 ghost use Rattle.board_model.specs.Labels.{wire_plane, via_plane};
 ghost use Rattle.board_model.specs.Known.{IsKnown};
 ghost use Rattle.board_model.specs.Shapes.{board_shapes};
 ghost use Rattle.plane_set.specs.Drawings.{drawing_by, Shows};
+ghost use Rattle.plane_set.specs.Relabelled.{AreRelabelled, BeginWithBoard};
 ghost use Rattle.plane_set.specs.Standing.{HasPlanes, StandsFor};
 
 use crate::adds::add_to_rows;
 use crate::builds::build_rows;
 use crate::families::Family;
+use crate::rests::rest_in_rows;
 use board_model::{Board, Made, Shape, all_shapes};
 use geo_rect::{ClassId, KindId, LayerId, NoMemory};
 use plane_core::Plane;
@@ -62,6 +64,30 @@ impl<P: Plane> PlaneSet<P> {
         let PlaneSet { wires, vias } = self;
         let wires = add_to_rows(alloc, board, Family::Wires, wires, s)?;
         let vias = add_to_rows(alloc, board, Family::Vias, vias, s)?;
+        Ok(PlaneSet { wires, vias })
+    }
+
+    /// The planes with each point that lies in the growth of `gone`, a shape of a net, labelled again
+    /// over `shapes`, which begin with those of the board; each other point keeps its label. After
+    /// `NoMemory` the planes are gone.
+    pub fn rest(
+        self,
+        alloc: Global,
+        board: &Board,
+        gone: &Shape,
+        shapes: &[Shape],
+    ) -> Result<PlaneSet<P>, NoMemory>
+        requires planes { HasPlanes board.now.parts self }
+        requires gone { IsKnown board.now.parts gone.now }
+        requires net { IsSome gone.now.owner }
+        requires known { All (IsKnown board.now.parts) shapes.now }
+        requires board { BeginWithBoard board.now.parts shapes.now }
+        ensures planes { IfOk result (λ set. HasPlanes board.now.parts set) }
+        ensures labels { IfOk result (λ set. AreRelabelled board.now.parts gone.now shapes.now self set) }
+    {
+        let PlaneSet { wires, vias } = self;
+        let wires = rest_in_rows(alloc, board, Family::Wires, wires, gone, shapes)?;
+        let vias = rest_in_rows(alloc, board, Family::Vias, vias, gone, shapes)?;
         Ok(PlaneSet { wires, vias })
     }
 

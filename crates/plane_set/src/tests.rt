@@ -1,11 +1,11 @@
-ghost use Rattle.std.specs.Prelude.{IsTrue};
+ghost use Rattle.std.specs.Prelude.{IfOk, IsSome, IsTrue};
 ghost use Rattle.geo_rect.specs.Plane.{HasPoint};
 ghost use Rattle.board_model.specs.Known.{IsKnown, IsNearOrigin};
 ghost use Rattle.grow_rules.specs.Frames.{IsBoardPoint};
 ghost use Rattle.plane_set.specs.Standing.{HasPlanes};
 
 use crate::PlaneSet;
-use board_model::{Block, Board, BoardParts, Pin, Rule, Shape, ViaKind};
+use board_model::{Block, Board, BoardParts, Made, Pin, Rule, Shape, ViaKind, all_shapes};
 use flat_plane::FlatPlane;
 use geo_rect::{ClassId, KindId, Label, LayerId, List, NetId, NoMemory, Node, Point, Rect, Text};
 use plane_core::{Plane, Strips};
@@ -93,7 +93,8 @@ fn right() -> Rect {
 
 /// A shape on the first layer, of the first net or of none.
 fn shape_of(rt: &impl Abort, board: &Board, area: Rect, is_owned: bool) -> Shape
-    ensures { IsKnown board.now.parts result }
+    ensures known { IsKnown board.now.parts result }
+    ensures owned { IsTrue is_owned → IsSome result.owner }
 {
     assert!(rt; board.layers() > 0);
     assert!(rt; board.nets() > 0);
@@ -171,6 +172,44 @@ fn added_strips<P: Plane>(rt: &impl Abort, alloc: Global) -> Result<Strips, NoMe
     let set = set.add(alloc, &board, &shape_of(rt, &board, wall(), false))?;
     let set = set.add(alloc, &board, &shape_of(rt, &board, left(), true))?;
     wire_strips(rt, alloc, &board, &set)
+}
+
+/// The planes of the board that has the wall and the pins, where a wire of the net between them came
+/// and went.
+fn rested_strips<P: Plane>(rt: &impl Abort, alloc: Global) -> Result<Strips, NoMemory> {
+    let pins = [pin(left(), 0), pin(right(), 0)];
+    let parts = parts_of(alloc, 40, 20, &[block(wall())], &pins)?;
+    let board = board_of(rt, alloc, parts)?;
+    let wire = shape_of(rt, &board, Rect::new(4, 9, 36, 11), true);
+    let set: PlaneSet<P> = PlaneSet::build(alloc, &board)?;
+    let set = set.add(alloc, &board, &wire)?;
+    let set = without(alloc, &board, set, &wire)?;
+    wire_strips(rt, alloc, &board, &set)
+}
+
+/// The planes with the labels near the shape made again over the shapes of the board.
+fn without<P: Plane>(
+    alloc: Global,
+    board: &Board,
+    set: PlaneSet<P>,
+    gone: &Shape,
+) -> Result<PlaneSet<P>, NoMemory>
+    requires planes { HasPlanes board.now.parts set }
+    requires gone { IsKnown board.now.parts gone.now }
+    requires net { IsSome gone.now.owner }
+    ensures { IfOk result (λ new. HasPlanes board.now.parts new) }
+{
+    let made = Made::none(alloc, board)?;
+    let shapes = all_shapes(alloc, board, &made)?;
+    set.rest(alloc, board, gone, shapes.as_slice())
+}
+
+#[test]
+fn a_wire_that_came_and_went_leaves_no_trace(rt: HostRuntime) -> Result<(), Fail> {
+    let built = built_strips::<FlatPlane>(&rt, rt.alloc())?;
+    let rested = rested_strips::<FlatPlane>(&rt, rt.alloc())?;
+    assert_eq!(rt; rested.as_slice(), built.as_slice());
+    Ok(())
 }
 
 #[test]

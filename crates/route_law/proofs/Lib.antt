@@ -1,6 +1,7 @@
 pub mod Attained
 pub mod Before
 pub mod Beside
+pub mod Beginning
 pub mod Bounds
 pub mod Determined
 pub mod Doors
@@ -9,6 +10,7 @@ pub mod Joining
 pub mod Law
 pub mod OnBoards
 pub mod Passed
+pub mod Running
 pub mod StepBounds
 pub mod Ways
 pub mod Wires

@@ -22,7 +22,7 @@ pub use moves::{
     via_moves_go_where_strips_meet,
 };
 pub use replies::{Fail, Item, Made1, Reply, Routed};
-pub use runs::{nothing_made_is_kept, runs_go_on};
+pub use runs::{nothing_made_is_a_state, runs_go_on};
 pub use walks::{
     a_connection_costs_its_legs, a_wire_within_a_strip_is_a_walk, walks_join_end_to_end,
 };

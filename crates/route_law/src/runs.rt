@@ -10,7 +10,7 @@ ghost use Rattle.board_model.specs.Rules.{IsBoard};
 ghost use Rattle.route_law.specs.declared.replies.Made1.{Made1};
 ghost use Rattle.route_law.specs.declared.replies.Reply.{Reply};
 ghost use Rattle.route_law.specs.declared.replies.Routed.{Routed};
-ghost use Rattle.route_law.specs.Kept.{IsKept};
+ghost use Rattle.route_law.specs.Kept.{IsState};
 ghost use Rattle.route_law.specs.Routing.{IsNextConnection, AreMadeInTurn, IsRouted, AreRoutedFrom, net_at};
 ghost use Rattle.route_law.specs.Steps.{IsRunFrom, IsStep, nothing_made};
 
@@ -30,7 +30,7 @@ pub fn runs_go_on()
         → IsRunFrom b old (cs ++ c ∷ []) (rs ++ r ∷ []) new }
 {}
 
-/// The state in which nothing is made keeps the rules.
-pub fn nothing_made_is_kept()
-    ensures { (b : BoardParts) → IsBoard b → IsKept b (nothing_made b) }
+/// Nothing made is a state, which keeps the rules.
+pub fn nothing_made_is_a_state()
+    ensures { (b : BoardParts) → IsBoard b → IsState b (nothing_made b) }
 {}

@@ -98,7 +98,7 @@ module _ (b : BoardParts) (board : IsBoard b) where
     }
 
     -- the label of a point of the board is what the shapes make it
-    label_there : (f : Family) (shapes : List Shape) (table : List (List Drawing)) (r : ℕ) → AreRows (λ (row : List Drawing). row) (λ (d : Drawing). d) b f shapes table → r < length table → IsPlaneAt b table r (class_of b n) → (p : Point) → HasPoint (board_area b) p → label_of (strips_at table r (class_of b n)) p ≡ label_among b (rule_in b f r (class_of b n)) shapes p
+    pub label_there : (f : Family) (shapes : List Shape) (table : List (List Drawing)) (r : ℕ) → AreRows (λ (row : List Drawing). row) (λ (d : Drawing). d) b f shapes table → r < length table → IsPlaneAt b table r (class_of b n) → (p : Point) → HasPoint (board_area b) p → label_of (strips_at table r (class_of b n)) p ≡ label_among b (rule_in b f r (class_of b n)) shapes p
     label_there f shapes table r h l at p inside =
         let c : ClassId = class_of b n in
         let is : strips_at table r c ≡ at.plane.strips = ap strips_in at.there in

@@ -6,5 +6,6 @@ pub mod Found
 pub mod Gains
 pub mod Grounds
 pub mod InBoxes
+pub mod OfShapes
 pub mod Sides
 pub mod Ways

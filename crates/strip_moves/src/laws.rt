@@ -10,11 +10,12 @@ ghost use Rattle.board_model.specs.declared.shapes.Shape.{Shape};
 ghost use Rattle.board_model.specs.Labels.{IsPassable, IsViaPassable};
 ghost use Rattle.board_model.specs.Rules.{IsBoard};
 ghost use Rattle.plane_set.specs.Standing.{PlaneTable, HasPlanes, StandsFor};
+ghost use Rattle.route_law.specs.Boards.{IsGroundOf};
 ghost use Rattle.route_law.specs.Ground.{IsGround, IsPassableNode, IsPassableVia};
 ghost use Rattle.strip_moves.specs.Grounds.{board_area, ground_of, IsBoardNode};
 
 /// The planes of a state are a ground for each net of the board; and where they stand for some
-/// shapes, the net may pass on this ground just what these shapes leave to it.
+/// shapes, it is the ground that these shapes leave: the net may pass there just what they leave to it.
 pub fn planes_are_a_ground()
     ensures ground { (b : BoardParts) (set : PlaneTable) (n : NetId) → IsBoard b → n.0 < length b.net_names
         → HasPlanes b set → IsGround (ground_of b set n) }
@@ -24,4 +25,6 @@ pub fn planes_are_a_ground()
     ensures vias { (b : BoardParts) (shapes : List Shape) (set : PlaneTable) (n : NetId) (k : KindId) (p : Point) → IsBoard b
         → n.0 < length b.net_names → StandsFor b shapes set → k.0 < length b.kinds → HasPoint (board_area b) p
         → IsPassableVia (ground_of b set n) k p ↔ IsViaPassable b shapes n k p }
+    ensures of_shapes { (b : BoardParts) (shapes : List Shape) (set : PlaneTable) (n : NetId) → IsBoard b
+        → n.0 < length b.net_names → StandsFor b shapes set → IsGroundOf b shapes n (ground_of b set n) }
 {}

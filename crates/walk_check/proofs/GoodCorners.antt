@@ -9,6 +9,7 @@ use Rattle.board_model.specs.declared.made.Conn.{Conn}
 use Rattle.board_model.specs.declared.made.Leg.{Leg}
 use Rattle.board_model.specs.declared.made.Leg.TheVariants.{Wire, Via}
 use Rattle.board_model.specs.declared.parts.BoardParts.{BoardParts}
+use Rattle.board_model.specs.Rules.{IsBoard}
 use Rattle.plane_set.specs.Standing.{PlaneTable}
 use Rattle.route_law.specs.Connections.{steps_of}
 use Rattle.route_law.specs.Ground.{Ground}
@@ -17,7 +18,7 @@ use Rattle.route_law.proofs.Law.{first_passable}
 use Rattle.strip_moves.specs.Grounds.{ground_of}
 use Rattle.walk_check.specs.Corners.{corner_after, HasPlaces, IsGoodStart, IsGoodLeg, IsGoodCorner, IsFirstBadCorner, AreGoodLegs, IsFirstBadLeg, HasKind}
 use Rattle.route_law.specs.Joins.{IsConnection}
-use Rattle.walk_check.proofs.GoodLegs.{AreGood, good_steps, legs_end, legs_walk, legs_good, good_at, good_from}
+use Rattle.walk_check.proofs.GoodLegs.{passable_corner, AreGood, good_steps, legs_end, legs_walk, legs_good, good_at, good_from}
 
 -- what is said of no value holds where no value is the one
 pub if_none : (o : Option ℕ) (P : Type 0) → ((k : ℕ) → o ≡ Some k → ⊥) → IfNone o P → P
@@ -70,6 +71,13 @@ module _ (b : BoardParts) (set : PlaneTable) (n : NetId) (sources targets : List
 
   pub kinds_known : AreGoodLegs b g conn.start conn.legs (length conn.legs) → All (HasKind b) conn.legs
   kinds_known legs k d l = kind_known (corner_after conn.start conn.legs k) (get_or conn.legs k d) (legs k (get_or conn.legs k d) l (slice_get-get_or conn.legs k d l))
+
+  -- the corners of good legs from a good start are of the board
+  pub places_known : IsBoard b → IsGoodStart g sources conn.start → AreGoodLegs b g conn.start conn.legs (length conn.legs) → HasPlaces conn
+  places_known board start legs = record {
+    start = (passable_corner b set n board conn.start start.passable).place;
+    ends = λ k d l. (legs k (get_or conn.legs k d) l (slice_get-get_or conn.legs k d l)).step.end.place;
+  }
 
   pub good_throughout : HasPlaces conn → IsConnection b g conn sources targets ↔ ((k : ℕ) → IsGoodCorner b g conn sources targets k)
   good_throughout places = (

@@ -1,24 +1,28 @@
 -- Good legs are a walk, and the legs of a walk are good.
-use Rattle.std.proofs.Common.{ℕ, zero, suc, ◌≡◌, List, [], ◌∷◌, ◌++◌, ◌⊎◌, inl, inr, Some, refl, sym, ◌∙◌, ap, subst}
+use Rattle.std.proofs.Common.{ℤ, ℕ, zero, suc, ◌≡◌, List, [], ◌∷◌, ◌++◌, ◌⊎◌, inl, inr, Some, refl, sym, ◌∙◌, ap, subst, arith}
 use Rattle.std.specs.Prelude.{slice_get, ⊤}
+use Rattle.std.proofs.lemmas.Int.{ints}
 use Rattle.std.proofs.lemmas.Option.{same_Some}
 use Rattle.geo_rect.specs.declared.ids.NetId.{NetId}
 use Rattle.geo_rect.specs.declared.ids.Node.{Node}
 use Rattle.geo_rect.specs.declared.shapes.Point.{Point}
+use Rattle.geo_rect.specs.Axis.{HasNumber}
 use Rattle.board_model.specs.declared.made.Leg.{Leg}
 use Rattle.board_model.specs.declared.made.Leg.TheVariants.{Wire, Via}
 use Rattle.board_model.specs.declared.parts.BoardParts.{BoardParts}
+use Rattle.board_model.specs.Rules.{IsBoard, IsSide}
 use Rattle.board_model.specs.Shapes.{place_of, end_of}
-use Rattle.board_model.specs.WellFormed.{IsInLine, across, up, IsWire, IsStep, AreSteps}
+use Rattle.board_model.specs.WellFormed.{IsCoordinate, IsCorner, IsInLine, across, up, IsWire, HasForm, IsStep, AreSteps}
 use Rattle.plane_set.specs.Standing.{PlaneTable}
 use Rattle.route_law.specs.Connections.{steps_of_leg, steps_of_legs, IsStraight}
 use Rattle.route_law.specs.Ground.{Ground, IsPassableNode, IsPassableVia}
 use Rattle.route_law.specs.Walks.{IsWalk, last_node}
 use Rattle.route_law.proofs.Joining.{walk-append, last_node-append}
 use Rattle.route_law.proofs.Wires.{wire_end}
-use Rattle.strip_moves.specs.Grounds.{ground_of}
+use Rattle.strip_moves.specs.Grounds.{ground_of, upto}
 use Rattle.walk_check.specs.Clear.{IsClearLeg}
 use Rattle.walk_check.specs.Corners.{corner_after, IsGoodLeg}
+use Rattle.walk_check.proofs.Lines.{line_last}
 use Rattle.walk_check.proofs.Units.{clear_walk, walk_clear}
 
 in_line : (v w : Node) → IsInLine (place_of v) (place_of w) → (w.x ≡ v.x) ⊎ (w.y ≡ v.y)
@@ -27,6 +31,10 @@ in_line v w (up e n) = inl (sym e)
 
 straight_wire : (v w : Node) → IsWire v w → IsStraight v w
 straight_wire v w h = record { same_layer = sym h.layer; in_line = in_line v w h.line }
+
+-- a number of a side of the board is a coordinate that a corner may have
+side_place : (n v : ℤ) → IsSide n → HasNumber (upto n) v → IsCoordinate v
+side_place n v side h = let f = h.from in let t = h.to in let most = side.to in record { from = omega (arith, ints); to = omega (arith, ints) }
 
 walk_parts : (g : Ground) (v : Node) (first second : List Leg) → IsWalk g v (first ++ second) → IsWalk g v first × IsWalk g (last_node v first) second
 walk_parts g v [] [] h = (h, h)
@@ -40,6 +48,22 @@ last_passable g v (step ∷ steps) h = last_passable g (end_of step) steps h.2
 module _ (b : BoardParts) (set : PlaneTable) (n : NetId) where
   abbrev g : Ground
   g = ground_of b set n
+
+  -- a node that the net may pass is a corner of the board
+  pub passable_corner : IsBoard b → (v : Node) → IsPassableNode g v → IsCorner b v
+  passable_corner board v h = record {
+    layer = h.on_layer;
+    place = record { across = side_place b.width v.x board.width h.in_region.across; up = side_place b.height v.y board.height h.in_region.up };
+  }
+
+  -- a leg that the net may pass ends in a node that it may pass
+  clear_end : (v : Node) (leg : Leg) → IsClearLeg g v leg → IsPassableNode g (end_of leg)
+  clear_end v (Wire w) h = h.each (place_of w) (line_last v w)
+  clear_end v (Via k w) h = h.end
+
+  -- a leg of a good form that the net may pass is good
+  pub good_leg : IsBoard b → (v : Node) (leg : Leg) → HasForm b v leg → IsClearLeg g v leg → IsGoodLeg b g v leg
+  good_leg board v leg form clear = record { step = record { form = form; end = passable_corner board (end_of leg) (clear_end v leg clear) }; clear = clear }
 
   leg_walk : (v : Node) (leg : Leg) → IsPassableNode g v → IsGoodLeg b g v leg → IsWalk g v (steps_of_leg v leg)
   leg_walk v (Wire w) p h = clear_walk g v w (straight_wire v w h.step.form) h.clear

@@ -15,6 +15,9 @@ use Rattle.route_law.proofs.Wires.{Toward, rises, falls, stays, toward_is, towar
 stretch_first : (u v : ℤ) → HasNumber (stretch u v (pos 0)) u
 stretch_first u v = record { from = omega (arith, ints, clamps); to = omega (arith, ints, clamps) }
 
+stretch_last : (u v : ℤ) → HasNumber (stretch u v (pos 0)) v
+stretch_last u v = record { from = omega (arith, ints, clamps); to = omega (arith, ints, clamps) }
+
 stretch_lone : (u v w : ℤ) → u ≡ v → HasNumber (stretch u v (pos 0)) w → w ≡ u
 stretch_lone u v w e h = let f = h.from in let t = h.to in omega (arith, ints, clamps)
 
@@ -46,6 +49,10 @@ point_is p q e f =
 -- a wire has its start
 pub line_first : (v w : Node) → HasPoint (segment (place_of v) (place_of w) (pos 0)) (place_of v)
 line_first v w = record { across = stretch_first v.x w.x; up = stretch_first v.y w.y }
+
+-- and its end
+pub line_last : (v w : Node) → HasPoint (segment (place_of v) (place_of w) (pos 0)) (place_of w)
+line_last v w = record { across = stretch_last v.x w.x; up = stretch_last v.y w.y }
 
 -- a wire that ends where it starts has no other point
 pub line_lone : (v w : Node) (p : Point) → apart (place_of v) (place_of w) ≡ 0 → HasPoint (segment (place_of v) (place_of w) (pos 0)) p → p ≡ place_of v

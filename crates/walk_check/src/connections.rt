@@ -3,7 +3,7 @@
 ghost use Rattle.std.specs.Prelude.{◌≡◌, ◌<◌, ◌^◌, length, IfOk, IfSome, IfNone};
 ghost use Rattle.plane_set.specs.Standing.{HasPlanes};
 ghost use Rattle.route_law.specs.Walks.{last_node};
-ghost use Rattle.walk_check.specs.Corners.{HasPlaces, IsFirstBadCorner};
+ghost use Rattle.walk_check.specs.Corners.{IsFirstBadCorner};
 ghost use Rattle.route_law.specs.Joins.{IsConnection};
 ghost use Rattle.strip_moves.specs.Grounds.{ground_of};
 
@@ -40,7 +40,7 @@ fn end_of(conn: &Conn) -> Node
 /// net may not pass it. Corner `k` is the node in which leg `k` ends, from 1; it is bad where the
 /// leg is malformed, leaves the board, or has a node or a via that the net may not pass. The last
 /// corner is bad also where no target box has it. One more than the last corner is named where the
-/// cost is not the walk's. The coordinates of the corners lie between -2^24 and 2^24.
+/// cost is not the walk's.
 pub fn bad_corner<P: Plane>(
     alloc: Global,
     board: &Board,
@@ -52,7 +52,6 @@ pub fn bad_corner<P: Plane>(
 ) -> Result<Option<u64>, NoMemory>
     requires planes { HasPlanes board.now.parts planes.now }
     requires net { net.0 < length board.now.parts.net_names }
-    requires places { HasPlaces conn.now }
     ensures some { IfOk result (λ bad. IfSome bad (λ k.
         IsFirstBadCorner board.now.parts (ground_of board.now.parts planes.now net) conn.now sources.now targets.now k)) }
     ensures bad { IfOk result (λ bad. IfSome bad (λ k.

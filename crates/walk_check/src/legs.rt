@@ -3,11 +3,11 @@
 ghost use Rattle.std.specs.Prelude.{◌≡◌, ◌<◌, ◌↔◌, pos, length, IfOk, IfSome, IfNone, IsTrue};
 ghost use Rattle.board_model.specs.Labels.{IsInSpan};
 ghost use Rattle.board_model.specs.Segments.{stretch, segment};
-ghost use Rattle.board_model.specs.Shapes.{place_of, end_of};
-ghost use Rattle.board_model.specs.WellFormed.{IsPlace, IsWire, IsVia};
+ghost use Rattle.board_model.specs.Shapes.{place_of};
+ghost use Rattle.board_model.specs.WellFormed.{IsWire, IsVia};
 ghost use Rattle.plane_set.specs.Standing.{HasPlanes};
 ghost use Rattle.walk_check.specs.Clear.{IsClearWire};
-ghost use Rattle.walk_check.specs.Corners.{HasPlaces, IsGoodLeg, AreGoodLegs, IsFirstBadLeg};
+ghost use Rattle.walk_check.specs.Corners.{IsGoodLeg, AreGoodLegs, IsFirstBadLeg};
 ghost use Rattle.strip_moves.specs.Grounds.{ground_of};
 
 use crate::nodes::is_clear_via;
@@ -122,7 +122,6 @@ fn is_good_wire<P: Plane>(
 ) -> Result<bool, NoMemory>
     requires planes { HasPlanes board.now.parts planes.now }
     requires net { net.0 < length board.now.parts.net_names }
-    requires place { IsPlace (place_of to) }
     ensures { IfOk result (λ good. IsTrue good ↔ IsGoodLeg board.now.parts (ground_of board.now.parts planes.now net) from (Leg.Wire to)) }
 {
     if !is_wire(from, to) {
@@ -145,7 +144,6 @@ fn is_good_via<P: Plane>(
 ) -> bool
     requires planes { HasPlanes board.now.parts planes.now }
     requires net { net.0 < length board.now.parts.net_names }
-    requires place { IsPlace (place_of to) }
     ensures { IsTrue result ↔ IsGoodLeg board.now.parts (ground_of board.now.parts planes.now net) from (Leg.Via kind to) }
 {
     if !is_via(board, kind, from, to) {
@@ -165,7 +163,6 @@ fn is_good_leg<P: Plane>(
 ) -> Result<bool, NoMemory>
     requires planes { HasPlanes board.now.parts planes.now }
     requires net { net.0 < length board.now.parts.net_names }
-    requires place { IsPlace (place_of (end_of leg)) }
     ensures { IfOk result (λ good. IsTrue good ↔ IsGoodLeg board.now.parts (ground_of board.now.parts planes.now net) from leg) }
 {
     match leg {
@@ -184,7 +181,6 @@ pub fn first_bad_leg<P: Plane>(
 ) -> Result<Option<u64>, NoMemory>
     requires planes { HasPlanes board.now.parts planes.now }
     requires net { net.0 < length board.now.parts.net_names }
-    requires places { HasPlaces conn.now }
     ensures some { IfOk result (λ bad. IfSome bad (λ k. IsFirstBadLeg board.now.parts (ground_of board.now.parts planes.now net) conn.now.start conn.now.legs k)) }
     ensures none { IfOk result (λ bad. IfNone bad (AreGoodLegs board.now.parts (ground_of board.now.parts planes.now net) conn.now.start conn.now.legs (length conn.now.legs))) }
 {

@@ -1,4 +1,4 @@
-use Rattle.std.proofs.Common.{◌≡◌, ◌∙◌, ap, sym}
+use Rattle.std.proofs.Common.{◌∙◌, ap, sym}
 use Rattle.std.specs.Str.{bytes_eq}
 use Rattle.board_reader.specs.Forms.{spelling, all_forms}
 use Rattle.board_reader.specs.declared.forms.Form.TheVariants as form

@@ -1,4 +1,4 @@
-use Rattle.std.proofs.Common.{◌≡◌, ◌++◌, ◌∙◌, ap, ◌+◌, ◌-◌}
+use Rattle.std.proofs.Common.{◌++◌, ◌∙◌, ap, ◌+◌, ◌-◌}
 use Rattle.std.specs.List.{range_with_len, flat_map}
 use Rattle.board_reader.specs.Tables.{row_of}
 use Rattle.board_reader.proofs.Ranges.{flat_map-next}

@@ -1,9 +1,8 @@
-use Rattle.std.proofs.Common.{◌≡◌, ◌∷◌, [], ap, sym, ◌∙◌, arith, length, ◌<◌, take, drop}
-use Rattle.std.proofs.lemmas.Grind.{common_steps}
+use Rattle.std.proofs.Common.{◌∷◌, ap, sym, ◌∙◌, arith, length, ◌<◌, take}
 use Rattle.std.proofs.lemmas.List.{take_rest}
 use Rattle.std.proofs.lemmas.Bool.{eqb-true, eqb-false}
-use Rattle.board_reader.specs.Lines.{words, after_blanks}
-use Rattle.board_reader.proofs.FirstWord.{words-after_blanks, words-empty, words-first}
+use Rattle.board_reader.specs.Lines.{words}
+use Rattle.board_reader.proofs.FirstWord.{words-empty, words-first}
 use Rattle.board_reader.proofs.words.next_word.Goals as goal
 
 pub returns-then-is_empty : goal.returns-then-is_empty

@@ -5,7 +5,7 @@ use Rattle.route_law.specs.Walks.{HasNode, last_node, walk_cost}
 use Rattle.route_law.proofs.Joining.{walk_cost-legs}
 use Rattle.strip_moves.specs.Grounds.{ground_of}
 use Rattle.walk_check.specs.Corners.{IsGoodStart, IsFirstBadCorner, AreGoodLegs, IsFirstBadLeg}
-use Rattle.walk_check.proofs.GoodCorners.{if_none, connection_by, kinds_known, bad_is_none, bad_start, bad_leg, bad_end, bad_cost}
+use Rattle.walk_check.proofs.GoodCorners.{if_none, connection_by, kinds_known, places_known, bad_is_none, bad_start, bad_leg, bad_end, bad_cost}
 use Rattle.walk_check.proofs.connections.bad_corner.Goals as goal
 
 pub returns-then-not-is_good_start : goal.returns-then-not-is_good_start
@@ -57,6 +57,16 @@ cost_of-requires-clause-kinds g c =
     let legs = if_none c.in_ok-corner.field-0 _ c.in_default.not-Some c.in_ok-corner.ensures.none in
     kinds_known c.args.board.now.parts c.args.planes.now c.args.net c.args.sources.now c.args.targets.now c.args.conn.now legs
 
+pub cost_of-requires-clause-places : goal.cost_of-requires-clause-places
+cost_of-requires-clause-places g c =
+    let b = c.args.board.now.parts in
+    let set = c.args.planes.now in
+    let n = c.args.net in
+    let sources = c.args.sources.now in
+    let start : IsGoodStart (ground_of b set n) sources c.args.conn.now.start = c.is_good_start.ensures.0 c.if-not-is_good_start.false in
+    let legs = if_none c.in_ok-corner.field-0 _ c.in_default.not-Some c.in_ok-corner.ensures.none in
+    places_known b set n sources c.args.targets.now c.args.conn.now c.args.board.now.kept start legs
+
 pub returns-then-cost_of-conn : goal.returns-then-cost_of-conn
 returns-then-cost_of-conn g c =
     let b = c.args.board.now.parts in
@@ -85,4 +95,4 @@ returns-clause-none g c =
     let start : IsGoodStart ground sources conn.start = c.is_good_start.ensures.0 c.if-not-is_good_start.false in
     let legs : AreGoodLegs b ground conn.start conn.legs (length conn.legs) = if_none c.in_ok-corner.field-0 _ c.in_default.not-Some c.in_ok-corner.ensures.none in
     let ends : HasNode targets (last_node conn.start conn.legs) = subst (λ (v : Node). HasNode targets v) c.end_of.ensures (c.has_node.ensures.0 c.if-not-has_node.false) in
-    connection_by b set n sources targets conn c.requires.places start legs ends (walk_cost-legs ground conn.start conn.legs ∙ sym (c.cost_of.ensures set n) ∙ c.if-cost_of-conn.false)
+    connection_by b set n sources targets conn (places_known b set n sources targets conn c.args.board.now.kept start legs) start legs ends (walk_cost-legs ground conn.start conn.legs ∙ sym (c.cost_of.ensures set n) ∙ c.if-cost_of-conn.false)

@@ -1,8 +1,6 @@
-use Rattle.std.proofs.Common.{◌≡◌, OnOk, ap, subst, arith, inl, inr}
+use Rattle.std.proofs.Common.{◌≡◌, OnOk, subst, arith}
 use Rattle.board_reader.specs.declared.forms.Form.TheVariants as form
-use Rattle.board_reader.specs.declared.forms.Stage.TheVariants.{Commands}
-use Rattle.board_reader.specs.Forms.{stage_of}
-use Rattle.board_reader.proofs.Adding.{command-form, board-version, board-width, board-height, layer-fresh, class-fresh, kind-fresh, net-fresh, rule-half, rule-gap, kind-charge, pad-half, block-corners, pin-corners, short-corners, ascii-word, as-form}
+use Rattle.board_reader.proofs.Adding.{command-form, command-stage, board-version, board-width, board-height, layer-fresh, class-fresh, kind-fresh, net-fresh, rule-half, rule-gap, kind-charge, pad-half, block-corners, pin-corners, short-corners, ascii-word, as-form}
 use Rattle.board_reader.proofs.Unbroken.{stands}
 use Rattle.board_reader.proofs.drafts.Draft.add.Goals as goal
 
@@ -104,8 +102,8 @@ add_pin-requires c =
     let h = as-form d c.args.form form.Pin ws c.in-Pin.is c.requires.passes in
     short-corners d ws c.requires.draft (stands h) (pin-corners d ws h)
 
-pub returns-in-Rules : goal.returns-in-Rules
-returns-in-Rules c =
+pub returns-in-Route : goal.returns-in-Route
+returns-in-Route c =
     let d = c.args.self.now in
-    let after : stage_of c.args.form ≡ Commands = elim c.in-Rules.is [ inl e ↦ ap stage_of e | inr e ↦ ap stage_of e ] in
+    let after = command-stage c.args.form c.in-Route.is in
     subst (λ n. OnOk c.add_command.result (c.add_command.new.self ≡ n)) (command-form d c.args.form c.args.words.now after) c.add_command.ensures

@@ -1,4 +1,4 @@
-use Rattle.std.proofs.Common.{◌≡◌, ◌∙◌, Ok, subst, sym, ap, inl, inr}
+use Rattle.std.proofs.Common.{◌∙◌, Ok, sym, ap, inl, inr}
 use Rattle.board_reader.specs.declared.forms.Stage.TheVariants.{Commands}
 use Rattle.board_reader.specs.Forms.{is_stage}
 use Rattle.board_reader.proofs.Lining.{ended, not-ended}

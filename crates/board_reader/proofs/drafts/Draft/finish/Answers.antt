@@ -12,7 +12,7 @@ build-requires c =
     let h = has-begun d c.requires.draft c.requires.ended in
     let width : to_z w32 (of_z w32 c.signed-width.result) ≡ pos d.heading.width = omega (arith, ints, h.width.to) in
     let height : to_z w32 (of_z w32 c.signed-height.result) ≡ pos d.heading.height = omega (arith, ints, h.height.to) in
-    let same = same-parts d _ _ _ _ width height c.in_ok-names.ensures c.in_ok-tables.ensures in
+    let same = same-parts d _ _ _ _ _ width height c.in_ok-names.ensures c.in_ok-rules.ensures c.in_ok-pads.ensures in
     subst IsBoard (sym same) (is-board d c.requires.draft c.requires.ended)
 
 pub returns : goal.returns
@@ -21,4 +21,4 @@ returns c =
     let h = has-begun d c.requires.draft c.requires.ended in
     let width : to_z w32 (of_z w32 c.signed-width.result) ≡ pos d.heading.width = omega (arith, ints, h.width.to) in
     let height : to_z w32 (of_z w32 c.signed-height.result) ≡ pos d.heading.height = omega (arith, ints, h.height.to) in
-    same-told d c.in_ok-board.board.parts (c.in_ok-board.ensures ∙ same-parts d _ _ _ _ width height c.in_ok-names.ensures c.in_ok-tables.ensures)
+    same-told d c.in_ok-board.board.parts (c.in_ok-board.ensures ∙ same-parts d _ _ _ _ _ width height c.in_ok-names.ensures c.in_ok-rules.ensures c.in_ok-pads.ensures)

@@ -1,4 +1,4 @@
-use Rattle.std.proofs.Common.{◌≡◌, true, false, Some, None, Ok, sym, ap, ◌∙◌}
+use Rattle.std.proofs.Common.{◌≡◌, true, Some, None, Ok, sym, ap, ◌∙◌}
 use Rattle.board_reader.specs.Drafts.{after_form}
 use Rattle.board_reader.specs.Lines.{counts}
 use Rattle.board_reader.proofs.Stepping.{line-kind, line-form, passing-words, skipped, refused, passed}

@@ -1,4 +1,4 @@
-use Rattle.std.proofs.Common.{◌≡◌, ◌∙◌, ap, sym, unwrap_or}
+use Rattle.std.proofs.Common.{◌∙◌, ap, unwrap_or}
 use Rattle.std.specs.Str.{bytes_eq}
 use Rattle.board_reader.specs.Names.{number_in}
 use Rattle.board_reader.proofs.Naming.{position-map}

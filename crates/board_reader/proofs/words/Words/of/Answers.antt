@@ -1,4 +1,4 @@
-use Rattle.std.proofs.Common.{◌≡◌, ◌∷◌, [], ◌++◌, ◌-◌, map, ap, sym, ◌∙◌, arith, length, take}
+use Rattle.std.proofs.Common.{◌≡◌, ◌∷◌, ◌++◌, ◌-◌, map, arith, take}
 use Rattle.std.proofs.lemmas.List.{map-append}
 use Rattle.board_reader.specs.Lines.{words}
 use Rattle.board_reader.proofs.FirstWord.{take-next}

@@ -1,0 +1,11 @@
+//! The generator of boards: for each number of nets one board text, in which each two neighbouring
+//! nets must cross.
+#![tactic(auto)]
+
+mod generating;
+mod parts;
+mod shapes;
+#[cfg(test)]
+mod tests;
+
+pub use generating::generate;

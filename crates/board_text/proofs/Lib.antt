@@ -1,0 +1,11 @@
+pub mod Cells
+pub mod Drafts
+pub mod Fitting
+pub mod ItemsRead
+pub mod Known
+pub mod Lines
+pub mod Numerals
+pub mod Telling
+pub mod ViasRead
+pub mod Whole
+pub mod WiresRead

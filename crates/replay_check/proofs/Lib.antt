@@ -1,0 +1,9 @@
+pub mod Alike
+pub mod Determined
+pub mod Growing
+pub mod Listing
+pub mod Next
+pub mod OnBoard
+pub mod Prefixes
+pub mod Turns
+pub mod WireStrips

@@ -1,0 +1,4 @@
+pub mod Ends
+pub mod Items
+pub mod Runs
+pub mod States

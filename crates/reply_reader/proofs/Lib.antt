@@ -1,0 +1,10 @@
+pub mod Alike
+pub mod Composing
+pub mod Decimals
+pub mod Exits
+pub mod Formed
+pub mod Found
+pub mod Joining
+pub mod LineForms
+pub mod Standing
+pub mod Whole

@@ -1,0 +1,152 @@
+-- What the shapes of a connection keep of the rules: each point of its walk is left to the net.
+use Rattle.std.proofs.Common.{ℤ, pos, ◌≡◌, ◌<◌, ◌≤◌, ◌+◌, ◌-◌, ◌*◌, ◌≤ℤ◌, ◌⊎◌, inl, inr, List, [], ◌∷◌, ◌++◌, length, Option, Some, None, All, refl, sym, subst, arith}
+use Rattle.std.specs.Int.{int_max}
+use Rattle.std.proofs.lemmas.Bool.{cases_lt}
+use Rattle.std.proofs.lemmas.Int.{ints, clamps}
+use Rattle.std.proofs.lemmas.List.{get_or_past}
+use Rattle.std.proofs.lemmas.List.Elements.{All-nil, All-cons, All-append, All-map, All-weaker, All-get_or}
+use Rattle.std.proofs.lemmas.List.FromFn.{length-range_with_len, get_or-range_with_len}
+use Rattle.geo_rect.specs.declared.ids.ClassId.{ClassId}
+use Rattle.geo_rect.specs.declared.ids.KindId.{KindId}
+use Rattle.geo_rect.specs.declared.ids.LayerId.{LayerId}
+use Rattle.geo_rect.specs.declared.ids.NetId.{NetId}
+use Rattle.geo_rect.specs.declared.ids.Node.{Node}
+use Rattle.geo_rect.specs.declared.shapes.Point.{Point}
+use Rattle.geo_rect.specs.declared.shapes.Rect.{Rect}
+use Rattle.geo_rect.specs.Plane.{HasPoint, IsTooClose, square}
+use Rattle.board_model.specs.declared.made.Leg.{Leg}
+use Rattle.board_model.specs.declared.made.Leg.TheVariants.{Wire, Via}
+use Rattle.board_model.specs.declared.parts.BoardParts.{BoardParts}
+use Rattle.board_model.specs.declared.parts.ViaKind.{ViaKind}
+use Rattle.board_model.specs.declared.shapes.Shape.{Shape}
+use Rattle.board_model.specs.Labels.{wire_plane, via_plane, IsInSpan, IsLeftTo}
+use Rattle.board_model.specs.Lookup.{rule_of, pad_of, kind_of, class_of, layer_at, layers_from}
+use Rattle.board_model.specs.Rules.{IsBoard, IsRule}
+use Rattle.board_model.specs.Segments.{segment}
+use Rattle.board_model.specs.Shapes.{place_of, end_of, net_shape, leg_shapes, legs_shapes}
+use Rattle.board_model.specs.Spacing.{gap_to}
+use Rattle.board_model.specs.WellFormed.{IsInLine, across, up, IsWire, IsStep, AreSteps}
+use Rattle.board_model.proofs.LabelHits.{wire_hits, via_hits}
+use Rattle.board_model.proofs.LabelLaws.{admits_is_left}
+use Rattle.route_law.specs.Boards.{IsGroundOf}
+use Rattle.route_law.specs.Connections.{steps_of_leg, steps_of_legs, IsStraight}
+use Rattle.route_law.specs.Ground.{Ground, IsPassableNode, IsPassableVia}
+use Rattle.route_law.specs.Kept.{KeepsRules}
+use Rattle.route_law.specs.Walks.{IsWalk, last_node}
+use Rattle.route_law.proofs.Law.{first_passable}
+use Rattle.route_law.proofs.OnBoards.{passable_nodes, passable_vias}
+use Rattle.route_law.proofs.Wires.{wire_end}
+use Rattle.walk_check.specs.Clear.{node_at, IsClearWire, IsClearLeg}
+use Rattle.walk_check.proofs.Lines.{line_first}
+use Rattle.walk_check.proofs.Units.{walk_clear}
+use Rattle.step_laws.proofs.Wide.{IsSquareTooClose, square_too_close, segment_on_board, line_last}
+
+-- the net may pass each of the legs, the first from v, and the node in which each ends
+abbrev pub AreClear : Ground → Node → List Leg → Type 0
+AreClear g v [] = Unit {0}
+AreClear g v (leg ∷ legs) = IsClearLeg g v leg × IsPassableNode g (end_of leg) × AreClear g (end_of leg) legs
+
+in_line : (v w : Node) → IsInLine (place_of v) (place_of w) → (w.x ≡ v.x) ⊎ (w.y ≡ v.y)
+in_line v w (across n e) = inr (sym e)
+in_line v w (up e n) = inl (sym e)
+
+straight_wire : (v w : Node) → IsWire v w → IsStraight v w
+straight_wire v w h = record { same_layer = sym h.layer; in_line = in_line v w h.line }
+
+walk_parts : (g : Ground) (v : Node) (first second : List Leg) → IsWalk g v (first ++ second) → IsWalk g v first × IsWalk g (last_node v first) second
+walk_parts g v [] [] h = (h, h)
+walk_parts g v [] (leg ∷ legs) h = (h.0, h)
+walk_parts g v (leg ∷ legs) second h = let k = walk_parts g (end_of leg) legs second h.2 in ((h.0, h.1, k.0), k.1)
+
+module _ (b : BoardParts) (g : Ground) where
+  leg_clear : (v : Node) (leg : Leg) → IsStep b v leg → IsWalk g v (steps_of_leg v leg) → IsClearLeg g v leg
+  leg_clear v (Wire w) s walk = walk_clear g v w (straight_wire v w s.form) walk
+  leg_clear v (Via k w) s walk = let P : Point → Type 0 = λ q. IsPassableVia g k q in record { via = subst P s.form.place walk.1.passable; end = walk.2 }
+
+  leg_end : (v : Node) (leg : Leg) → IsStep b v leg → last_node v (steps_of_leg v leg) ≡ end_of leg
+  leg_end v (Wire w) s = wire_end v w (straight_wire v w s.form)
+  leg_end v (Via k w) s = refl
+
+  -- the legs of a walk are clear
+  pub legs_clear : (v : Node) (legs : List Leg) → AreSteps b v legs → IsWalk g v (steps_of_legs v legs) → AreClear g v legs
+  legs_clear v [] s walk = tt
+  legs_clear v (leg ∷ legs) s walk =
+      let second : List Leg = steps_of_legs (end_of leg) legs in
+      let parts = walk_parts g v (steps_of_leg v leg) second walk in
+      let rest : IsWalk g (end_of leg) second = subst (λ (u : Node). IsWalk g u second) (leg_end v leg s.0) parts.1 in
+      (leg_clear v leg s.0 parts.0, first_passable g (end_of leg) second rest, legs_clear (end_of leg) legs s.1 rest)
+
+-- the rule of a layer and a class asks for something
+some_rule : (b : BoardParts) → IsBoard b → (l : LayerId) (c : ClassId) → IsRule (rule_of b l c)
+some_rule b h l c = by (cases_lt (l.0 * length b.classes + c.0) (length b.rules))
+  where
+    by : (l.0 * length b.classes + c.0 < length b.rules) ⊎ (length b.rules ≤ l.0 * length b.classes + c.0) → IsRule (rule_of b l c)
+    by (inl in_table) = All-get_or IsRule b.rules _ _ in_table h.each_rule
+    by (inr past) = subst IsRule (sym (get_or_past b.rules _ _ past)) (record {
+      half = record { from = omega arith; to = omega arith };
+      gap = record { from = omega arith; to = omega arith };
+    })
+
+some_gap : (b : BoardParts) → IsBoard b → (l : LayerId) (c : ClassId) (o : Option NetId) → pos 1 ≤ℤ gap_to b l c o
+some_gap b h l c None = (some_rule b h l c).gap.from
+some_gap b h l c (Some n) = greater _ _ (some_rule b h l c).gap.from
+  where
+    greater : (x y : ℤ) → pos 1 ≤ℤ x → pos 1 ≤ℤ int_max x y
+    greater x y p = omega (arith, ints, clamps)
+
+-- the layers from one to another are in the span of these
+in_span : (k : ViaKind) → All (IsInSpan k) (layers_from k.first k.last)
+in_span k =
+    All-map (IsInSpan k) layer_at _ (λ i d l.
+    let m : i < k.last.0 + 1 - k.first.0 = omega (arith, length-range_with_len k.first.0 (k.last.0 + 1 - k.first.0)) in
+    let e = get_or-range_with_len k.first.0 (k.last.0 + 1 - k.first.0) i d m in
+    record { from = omega (arith, e); to = omega (arith, e) })
+
+module _ (b : BoardParts) (shapes : List Shape) (n : NetId) (g : Ground) (h : IsBoard b) (o : IsGroundOf b shapes n g) where
+  abbrev c : ClassId
+  c = class_of b n
+
+  node_left : (v : Node) → IsPassableNode g v → IsLeftTo b (wire_plane b v.layer c) shapes (place_of v) n
+  node_left v p =
+      (admits_is_left b (wire_plane b v.layer c) (place_of v) shapes n).0 ((passable_nodes b shapes n g v o).0 p).1
+
+  via_left : (k : KindId) (p : Point) → IsPassableVia g k p → IsLeftTo b (via_plane b k c) shapes p n
+  via_left k p v = (admits_is_left b (via_plane b k c) p shapes n).0 ((passable_vias b shapes n g k p o).0 v).1
+
+  -- the wire keeps the rules where the net may pass each of its points
+  wire_keeps : (v w : Node) → IsClearWire g v w → KeepsRules b shapes (net_shape n (segment (place_of v) (place_of w) (rule_of b w.layer c).half) w.layer)
+  wire_keeps v w clear =
+      let half : ℤ = (rule_of b w.layer c).half in
+      let rule : IsRule (rule_of b w.layer c) = some_rule b h w.layer c in
+      let left : (p : Point) → HasPoint (segment (place_of v) (place_of w) (pos 0)) p → IsLeftTo b (wire_plane b w.layer c) shapes p n = λ p i. node_left (node_at p w.layer) (clear.each p i) in
+      record {
+        outline = segment_on_board b.width b.height half (place_of v) (place_of w) (left (place_of v) (line_first v w)).fits (left (place_of w) (line_last (place_of v) (place_of w))).fits;
+        gaps = λ t member layer owner close.
+            let near : IsSquareTooClose (place_of v) (place_of w) half (gap_to b w.layer c t.owner) t.area = square_too_close (place_of v) (place_of w) half _ t.area rule.half.from (some_gap b h w.layer c t.owner) close in
+            owner ((left near.point near.inside).own t member ((wire_hits b c near.point t w.layer).1 (layer, near.close)));
+      }
+
+  -- a pad of a via keeps the rules where the via may stand
+  pad_keeps : (k : KindId) (w : Node) (l : LayerId) → IsPassableVia g k (place_of w) → IsInSpan (kind_of b k) l → KeepsRules b shapes (net_shape n (square (place_of w) (pad_of b k c)) l)
+  pad_keeps k w l via span =
+      let left : IsLeftTo b (via_plane b k c) shapes (place_of w) n = via_left k (place_of w) via in
+      record {
+        outline = left.fits;
+        gaps = λ t member layer owner close.
+            let there : IsInSpan (kind_of b k) t.layer = subst (λ (m : LayerId). IsInSpan (kind_of b k) m) (sym layer) span in
+            let near : IsTooClose (square (place_of w) (pad_of b k c)) t.area (gap_to b t.layer c t.owner) = subst (λ (m : LayerId). IsTooClose (square (place_of w) (pad_of b k c)) t.area (gap_to b m c t.owner)) (sym layer) close in
+            owner (left.own t member ((via_hits b c (place_of w) t k).1 (there, near)));
+      }
+
+  leg_keeps : (v : Node) (leg : Leg) → IsClearLeg g v leg → All (KeepsRules b shapes) (leg_shapes b n v leg)
+  leg_keeps v (Wire w) clear =
+      All-cons (KeepsRules b shapes) (net_shape n (segment (place_of v) (place_of w) (rule_of b w.layer c).half) w.layer) [] (wire_keeps v w clear) (All-nil (KeepsRules b shapes))
+  leg_keeps v (Via k w) clear =
+      let area : Rect = square (place_of w) (pad_of b k c) in
+      All-map (KeepsRules b shapes) (net_shape n area) _
+      (All-weaker (IsInSpan (kind_of b k)) (λ l. KeepsRules b shapes (net_shape n area l)) (λ l span. pad_keeps k w l clear.via span) _ (in_span (kind_of b k)))
+
+  pub legs_keep : (v : Node) (legs : List Leg) → AreClear g v legs → All (KeepsRules b shapes) (legs_shapes b n v legs)
+  legs_keep v [] clear = All-nil (KeepsRules b shapes)
+  legs_keep v (leg ∷ legs) clear =
+      All-append (KeepsRules b shapes) (leg_shapes b n v leg) (legs_shapes b n (end_of leg) legs) (leg_keeps v leg clear.0) (legs_keep (end_of leg) legs clear.2)

@@ -1,0 +1,6 @@
+//! The planes after new shapes.
+#![tactic(auto)]
+
+mod merges;
+
+pub use merges::merge;
