@@ -1,6 +1,4 @@
 -- The stitch names the tile that has its point.
-use Rattle.stitch_walk.proofs.Sweeping.{entered_on_both, entered_all}
-use Rattle.stitch_walk.proofs.Swept.{sweep_ends}
 use Rattle.std.proofs.Common.{◌∙◌, sym}
 use Rattle.stitch_walk.proofs.Linked.{tiling_now}
 use Rattle.stitch_walk.proofs.Reaching.{stitch_holds}
