@@ -1,21 +1,21 @@
 -- What a linked tiling keeps: where the tiles are the same, and with one tile alone.
-use Rattle.std.proofs.Common.{ℕ, ℤ, pos, ◌≡◌, ◌≢◌, ◌⊎◌, inl, inr, ◌+ℤ◌, ◌-ℤ◌, ◌≤ℤ◌, Some, None, IsSome, refl, sym, subst, ap, ◌∙◌, arith}
+use Rattle.std.proofs.Common.{ℕ, ◌≡◌, ◌≢◌, ◌⊎◌, inl, inr, Some, None, sym, subst, ap, ◌∙◌, arith}
 use Rattle.std.specs.declared.option.Option.{Option}
 use Rattle.std.proofs.lemmas.Int.{ints}
 use Rattle.std.proofs.lemmas.Bool.{cases_eq}
 use Rattle.geo_rect.specs.declared.shapes.Interval.{Interval}
 use Rattle.geo_rect.specs.declared.shapes.Point.{Point}
 use Rattle.geo_rect.specs.declared.shapes.Rect.{Rect}
-use Rattle.geo_rect.specs.Axis.{HasNumber, LiesWithin}
+use Rattle.geo_rect.specs.Axis.{LiesWithin}
 use Rattle.geo_rect.specs.Plane.{columns, rows, HasPoint, LiesIn}
-use Rattle.geo_rect.proofs.Parts.{low_in, high_in, lies_in_from}
+use Rattle.geo_rect.proofs.Parts.{low_in, lies_in_from}
 use Rattle.plane_core.specs.declared.sides.Side.{Side}
 use Rattle.plane_core.specs.declared.sides.Side.TheVariants.{Left, Below, Right, Above}
 use Rattle.plane_core.specs.Labels.{IsSmall, IsWithinReach}
 use Rattle.tile_store.specs.declared.tiles.Tile.{Tile}
 use Rattle.tile_store.specs.declared.tiles.TileId.{TileId}
-use Rattle.tile_store.specs.Store.{Store, tile_at, IsPresent, ChangesAt, HasNoTile, HasSameTiles}
-use Rattle.stitch_walk.specs.Links.{Holds, stitch, stitch_point, LeadsTo, IsHeld, IsLinked, IsTiling, IsOnlyTile, Tiles, whole_tile}
+use Rattle.tile_store.specs.Store.{Store, tile_at, ChangesAt, HasNoTile, HasSameTiles}
+use Rattle.stitch_walk.specs.Links.{Holds, stitch, stitch_point, LeadsTo, IsLinked, IsTiling, IsOnlyTile, Tiles, whole_tile}
 
 -- an option that holds something is not none
 some_is_not_none : (t : Tile) → Some t ≡ None → ⊥

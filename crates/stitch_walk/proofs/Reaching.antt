@@ -1,15 +1,14 @@
 -- Walks to a point: across an edge, in a straight line, and from both to the tile that has the point.
-use Rattle.std.proofs.Common.{ℕ, ℤ, pos, Bool, true, false, ◌≡◌, ◌<◌, ◌↔◌, IsTrue, ◌+ℤ◌, ◌-ℤ◌, ◌≤ℤ◌, ◌<ℤ◌, Some, None, refl, sym, subst, ap, ◌∙◌, arith}
+use Rattle.std.proofs.Common.{ℕ, ℤ, pos, Bool, true, false, ◌≡◌, ◌<◌, ◌↔◌, IsTrue, ◌+ℤ◌, ◌-ℤ◌, ◌≤ℤ◌, ◌<ℤ◌, Some, refl, sym, subst, ap, ◌∙◌, arith}
 use Rattle.std.specs.declared.option.Option.{Option}
 use Rattle.std.specs.Int.{int_max}
 use Rattle.std.specs.Int.RustNames.{unsigned_abs}
 use Rattle.std.proofs.lemmas.Int.{ints, clamps, by_lt_z}
-use Rattle.geo_rect.specs.declared.shapes.Interval.{Interval}
 use Rattle.geo_rect.specs.declared.shapes.Point.{Point}
 use Rattle.geo_rect.specs.declared.shapes.Rect.{Rect}
 use Rattle.geo_rect.specs.Axis.{HasNumber}
 use Rattle.geo_rect.specs.Plane.{columns, rows, HasPoint}
-use Rattle.geo_rect.proofs.Parts.{low_in, high_in, lies_in_points}
+use Rattle.geo_rect.proofs.Parts.{low_in, lies_in_points}
 use Rattle.plane_core.specs.declared.sides.Side.{Side}
 use Rattle.plane_core.specs.declared.sides.Side.TheVariants.{Left, Below, Right, Above}
 use Rattle.plane_core.specs.Sides.{turned, turned_point}
@@ -17,7 +16,7 @@ use Rattle.plane_core.proofs.Turns.{points_turn, mirrored_has, has_mirrored}
 use Rattle.tile_store.specs.declared.tiles.Tile.{Tile}
 use Rattle.tile_store.specs.declared.tiles.TileId.{TileId}
 use Rattle.tile_store.specs.Store.{Store, tile_at}
-use Rattle.stitch_walk.specs.Links.{Holds, stitch, stitch_point, LeadsTo, IsLinked, IsTiling, Tiles}
+use Rattle.stitch_walk.specs.Links.{Holds, stitch_point, LeadsTo, IsLinked, Tiles}
 use Rattle.stitch_walk.specs.Reaches.{opposite, following, beside_point, EndsShort, BeginsAfter, IsLevel, Reaches, IsPast}
 use Rattle.stitch_walk.proofs.Facing.{same_point, stitch_starts, stitch_follows, over, inside_turned, ends_left}
 use Rattle.stitch_walk.proofs.Linked.{one_tile}
@@ -26,10 +25,6 @@ use Rattle.stitch_walk.proofs.WalkState.{left_of, rows_left}
 -- a stitch that is there names the tile that has its point
 pub stitch_holds : (s : Store) (domain : Rect) (at : Point) (o : Option TileId) (next : TileId) → LeadsTo s domain at o → o ≡ Some next → Holds s next at
 stitch_holds s domain at o next leads e = let P : Option TileId → Type 0 = λ z. LeadsTo s domain at z in subst P e leads
-
--- a stitch whose point lies in the domain is there
-pub stitch_is_there : (s : Store) (domain : Rect) (at : Point) (o : Option TileId) → LeadsTo s domain at o → HasPoint domain at → o ≡ None → ⊥
-stitch_is_there s domain at o leads h e = let P : Option TileId → Type 0 = λ z. LeadsTo s domain at z in (subst P e leads) h
 
 -- a tile that has a point has it when both are turned
 tile_turned : (s : Store) (side : Side) (id : TileId) (t : Tile) (p q : Point) → Holds s id p → tile_at s id ≡ Some t → turned_point side p ≡ q → HasPoint (turned side t.area) q

@@ -1,15 +1,12 @@
 -- A sweep over an area: where it enters the tiles, and that it comes to each tile that meets the area.
-use Rattle.std.proofs.Common.{ℕ, zero, suc, ℤ, pos, Bool, true, false, ◌≡◌, ◌≢◌, ◌<◌, ◌≤◌, ◌+◌, ◌⊎◌, inl, inr, ◌↔◌, IsTrue, ◌+ℤ◌, ◌-ℤ◌, ◌≤ℤ◌, ◌<ℤ◌, Some, None, List, [], ◌∷◌, ◌++◌, length, get_or, take, IsSome, Contains, AllPairs, refl, sym, subst, ap, ◌∙◌, arith}
+use Rattle.std.proofs.Common.{ℕ, ℤ, pos, Bool, ◌≡◌, ◌≢◌, ◌<◌, ◌≤◌, ◌+◌, ◌⊎◌, inl, inr, ◌↔◌, IsTrue, ◌-ℤ◌, ◌≤ℤ◌, Some, None, List, [], ◌∷◌, ◌++◌, length, get_or, take, IsSome, Contains, refl, sym, subst, ◌∙◌, arith}
 use Rattle.std.specs.declared.option.Option.{Option}
-use Rattle.std.specs.Int.{int_max}
-use Rattle.std.specs.Int.RustNames.{unsigned_abs}
-use Rattle.std.proofs.lemmas.Int.{ints, clamps, by_lt_z}
-use Rattle.geo_rect.specs.declared.shapes.Interval.{Interval}
+use Rattle.std.proofs.lemmas.Int.{ints, clamps}
 use Rattle.geo_rect.specs.declared.shapes.Point.{Point}
 use Rattle.geo_rect.specs.declared.shapes.Rect.{Rect}
 use Rattle.geo_rect.specs.Axis.{HasNumber}
-use Rattle.geo_rect.specs.Plane.{columns, rows, HasPoint, LiesIn}
-use Rattle.geo_rect.proofs.Parts.{low_in, high_in, lies_in_points}
+use Rattle.geo_rect.specs.Plane.{columns, rows, HasPoint}
+use Rattle.geo_rect.proofs.Parts.{low_in}
 use Rattle.plane_core.specs.declared.sides.Side.{Side}
 use Rattle.plane_core.specs.declared.sides.Side.TheVariants.{Left, Below, Right, Above}
 use Rattle.plane_core.specs.Choice.{Meets}
@@ -18,8 +15,8 @@ use Rattle.plane_core.proofs.Turns.{points_turn, mirrored_has}
 use Rattle.tile_store.specs.declared.tiles.Tile.{Tile}
 use Rattle.tile_store.specs.declared.tiles.TileId.{TileId}
 use Rattle.tile_store.specs.Store.{Store, tile_at, IsPresent}
-use Rattle.stitch_walk.specs.Links.{Holds, IsHeld, IsLinked}
-use Rattle.stitch_walk.specs.Neighbours.{IsNeighbour, AreNeighbours, IsDistinct, MeetsArea, AreMeeting}
+use Rattle.stitch_walk.specs.Links.{IsLinked}
+use Rattle.stitch_walk.specs.Neighbours.{IsNeighbour, AreNeighbours, IsDistinct}
 use Rattle.stitch_walk.specs.Sweeps.{IsLeftEntry, IsLowerEntry, IsEntry, IsEntryOf, EntersFrom, IsNext, AreEntered, AreAllEntered}
 use Rattle.stitch_walk.proofs.Facing.{same_point, ends_left}
 use Rattle.std.proofs.lemmas.List.{take_more, take_all}

@@ -1,5 +1,5 @@
 -- The run of a sweep: its start, one turn, and that at its end each tile that meets the area is found.
-use Rattle.std.proofs.Common.{ℕ, zero, suc, ℤ, pos, ◌≡◌, ◌≢◌, ◌<◌, ◌≤◌, ◌+◌, ◌⊎◌, inl, inr, ◌+ℤ◌, ◌-ℤ◌, ◌≤ℤ◌, ◌<ℤ◌, Some, None, List, [], ◌∷◌, ◌++◌, length, slice_get, IsSome, Contains, refl, sym, subst, ap, ◌∙◌, arith}
+use Rattle.std.proofs.Common.{ℕ, zero, suc, ℤ, pos, ◌≡◌, ◌≢◌, ◌<◌, ◌≤◌, ◌+◌, inl, inr, ◌-ℤ◌, ◌≤ℤ◌, ◌<ℤ◌, Some, List, [], ◌∷◌, ◌++◌, length, slice_get, IsSome, Contains, refl, sym, subst, ap, ◌∙◌, arith}
 use Rattle.std.specs.declared.option.Option.{Option}
 use Rattle.std.specs.Int.{int_max}
 use Rattle.std.specs.Int.RustNames.{unsigned_abs}
@@ -12,14 +12,13 @@ use Rattle.geo_rect.specs.declared.shapes.Rect.{Rect}
 use Rattle.geo_rect.specs.Axis.{HasNumber}
 use Rattle.geo_rect.specs.Plane.{columns, rows, HasPoint, LiesIn}
 use Rattle.geo_rect.proofs.Parts.{low_in, lies_in_points}
-use Rattle.plane_core.specs.Choice.{Meets}
 use Rattle.plane_core.proofs.Members.{has_head, has_none}
 use Rattle.tile_store.specs.declared.tiles.Tile.{Tile}
 use Rattle.tile_store.specs.declared.tiles.TileId.{TileId}
 use Rattle.tile_store.specs.Store.{Store, tile_at, IsPresent}
-use Rattle.stitch_walk.specs.Links.{Holds, IsHeld, IsLinked}
-use Rattle.stitch_walk.specs.Neighbours.{IsDistinct, MeetsArea, AreMeeting}
-use Rattle.stitch_walk.specs.Sweeps.{IsLeftEntry, IsLowerEntry, IsEntry, EntersFrom, IsNext, AreAllEntered}
+use Rattle.stitch_walk.specs.Links.{Holds, IsLinked}
+use Rattle.stitch_walk.specs.Neighbours.{MeetsArea, AreMeeting}
+use Rattle.stitch_walk.specs.Sweeps.{IsLeftEntry, IsLowerEntry, IsEntry, IsNext, AreAllEntered}
 use Rattle.stitch_walk.proofs.Linked.{one_tile}
 use Rattle.stitch_walk.proofs.Pairs.{pairs_none, pairs_added, pairs_before, pairs_joined, last_cases}
 use Rattle.stitch_walk.proofs.SweepState.{IsEntered, IsSweeping, HasSwept}
@@ -59,9 +58,6 @@ less_below a x y b u v p q r t =
 
     one_axis : (a x u : ℤ) → a <ℤ u → x ≤ℤ (u -ℤ pos 1) → unsigned_abs (int_max (x -ℤ a) (pos 0)) < unsigned_abs (int_max (u -ℤ a) (pos 0))
     one_axis a x u p q = omega (arith, ints, clamps)
-
-corner_of : Rect → Point
-corner_of r = record { x = r.x0; y = r.y0 }
 
 module _ (s : Store) (domain : Rect) (is : IsLinked s domain) (area : Rect) where
   pub sweep_begins : (root : TileId) (found : List TileId) (place : ℕ) → Holds s root (record { x = area.x0; y = area.y0 }) → found ≡ root ∷ [] → place ≡ 0 → HasSwept s area found place

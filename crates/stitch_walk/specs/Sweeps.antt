@@ -1,6 +1,6 @@
 -- How a sweep over an area comes from tile to tile: from the tile that has the lower left corner of
 -- the area to each other one that meets it, over one step to the right or upwards.
-use Rattle.std.specs.Prelude.{ℤ, pos, ◌≡◌, ◌⊎◌, ◌-ℤ◌, ◌≤ℤ◌, ◌<ℤ◌, List, Contains, Option, Some, None}
+use Rattle.std.specs.Prelude.{pos, ◌≡◌, ◌⊎◌, ◌-ℤ◌, ◌≤ℤ◌, ◌<ℤ◌, List, Contains, Option, Some, None}
 use Rattle.std.specs.Int.{int_max}
 use Rattle.geo_rect.specs.declared.shapes.Point.{Point}
 use Rattle.geo_rect.specs.declared.shapes.Rect.{Rect}

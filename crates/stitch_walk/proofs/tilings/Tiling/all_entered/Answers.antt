@@ -1,6 +1,6 @@
 -- What a sweep enters is next to the tile, on the right or on the upper side.
 use Rattle.plane_core.specs.declared.sides.Side.TheVariants.{Right, Above}
-use Rattle.std.proofs.Common.{◌≡◌, List, ◌++◌, sym, ap, ◌∙◌}
+use Rattle.std.proofs.Common.{◌≡◌, List, ◌++◌, ap, ◌∙◌}
 use Rattle.tile_store.specs.declared.tiles.TileId.{TileId}
 use Rattle.stitch_walk.proofs.Linked.{tiling_now}
 use Rattle.stitch_walk.proofs.Sweeping.{entered_on_both, near_present, near_once, entered_in}

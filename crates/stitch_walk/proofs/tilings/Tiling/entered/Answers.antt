@@ -1,7 +1,5 @@
 -- One near tile more: it is added where a sweep enters it.
-use Rattle.std.proofs.Common.{◌≡◌, ◌<◌, ◌≤◌, length, refl, ◌∙◌, arith}
-use Rattle.tile_store.specs.declared.tiles.TileId.{TileId}
-use Rattle.stitch_walk.specs.Sweeps.{IsNext}
+use Rattle.std.proofs.Common.{◌<◌, ◌≤◌, length, refl, ◌∙◌, arith}
 use Rattle.stitch_walk.proofs.Pairs.{contains_at}
 use Rattle.stitch_walk.proofs.Reaching.{when_true, when_false}
 use Rattle.stitch_walk.proofs.Sweeping.{entered_none, entered_more, entered_same, entered_all, not_next}

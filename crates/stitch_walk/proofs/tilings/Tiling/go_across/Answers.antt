@@ -1,11 +1,5 @@
 -- Along the neighbours on the side, up to the one that has the point.
-use Rattle.std.proofs.Common.{◌≡◌, ◌<ℤ◌, ◌≤ℤ◌, ℤ, true, false, ap, subst, ◌∙◌, arith}
-use Rattle.geo_rect.specs.declared.shapes.Point.{Point}
-use Rattle.plane_core.specs.declared.sides.Side.{Side}
 use Rattle.plane_core.specs.Sides.{turned, turned_point}
-use Rattle.geo_rect.specs.Plane.{HasPoint}
-use Rattle.stitch_walk.specs.Links.{Holds, stitch_point}
-use Rattle.stitch_walk.specs.Reaches.{following, EndsShort}
 use Rattle.stitch_walk.proofs.Reaching.{cross_begins_inside, cross_begins, cross_goes_inside, cross_goes_on, cross_rises, cross_ends, rows_left_falls, when_true, when_false, below_row, by_side, holds_by_side}
 use Rattle.stitch_walk.proofs.tilings.Tiling.go_across.Goals as goal
 

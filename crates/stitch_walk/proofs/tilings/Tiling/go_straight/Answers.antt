@@ -1,7 +1,4 @@
 -- From tile to tile in a straight line, until one goes as far as the point.
-use Rattle.std.proofs.Common.{◌≡◌, ap, subst, sym}
-use Rattle.geo_rect.specs.Plane.{HasPoint}
-use Rattle.stitch_walk.specs.Reaches.{beside_point, BeginsAfter, IsPast}
 use Rattle.stitch_walk.proofs.Linked.{small_tile}
 use Rattle.stitch_walk.proofs.Reaching.{go_begins, go_past, go_inside, go_goes_on, columns_left_fall, go_reaches, go_level, when_true, when_false, past_by, inside_by, holds_by}
 use Rattle.stitch_walk.proofs.tilings.Tiling.go_straight.Goals as goal

@@ -1,5 +1,5 @@
 -- From the tile of the corner, until all that was found is done.
-use Rattle.std.proofs.Common.{◌≡◌, ◌≤◌, ◌+◌, List, [], ◌∷◌, ◌++◌, length, refl, sym, ap, ◌∙◌, arith}
+use Rattle.std.proofs.Common.{◌≡◌, ◌≤◌, ◌+◌, List, [], ◌∷◌, ◌++◌, length, refl, ap, ◌∙◌, arith}
 use Rattle.tile_store.specs.declared.tiles.TileId.{TileId}
 use Rattle.stitch_walk.proofs.Reaching.{holds_by}
 use Rattle.stitch_walk.proofs.Sweeping.{all_entered_in}
