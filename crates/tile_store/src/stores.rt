@@ -67,7 +67,7 @@ impl TileStore {
     /// Makes place for at least `n` more tiles. After `NoMemory` all is as before.
     pub fn reserve(&mut self, n: usize) -> Result<(), NoMemory>
         ensures room { OnOk result (n ≤ self.new.spare) }
-        ensures tiles { OnOk result (HasSameTiles self.old self.new) }
+        ensures tiles { HasSameTiles self.old self.new }
         ensures unchanged { OnErr result (self.new ≡ self.old) }
     {
         self.tiles.reserve(n)?;

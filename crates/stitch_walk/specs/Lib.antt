@@ -1,0 +1,4 @@
+pub mod Links
+pub mod Neighbours
+pub mod Reaches
+pub mod Sweeps
