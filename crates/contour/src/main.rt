@@ -1,6 +1,8 @@
 //! The program: a board text on standard input, the replies to its commands on standard output.
 #![tactic(auto)]
 
+#[cfg(test)]
+mod adopt_tests;
 mod answers;
 mod calls;
 #[cfg(test)]
