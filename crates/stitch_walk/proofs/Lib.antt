@@ -1,3 +1,4 @@
+pub mod Filled
 pub mod Linked
 pub mod Facing
 pub mod Pairs

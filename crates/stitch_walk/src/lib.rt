@@ -5,6 +5,7 @@
 #![tactic(auto)]
 
 mod ids;
+mod laws;
 mod locating;
 mod sides;
 mod sweeps;
@@ -12,4 +13,5 @@ mod tilings;
 mod walks;
 
 pub use ids::Ids;
+pub use laws::tiles_fill_the_domain;
 pub use tilings::Tiling;

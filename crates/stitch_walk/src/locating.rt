@@ -78,7 +78,13 @@ impl Tiling {
     }
 
     /// The tile that has `p`, a point of the domain one step past the edge of the tile under `id`.
-    fn go_across<L: Ledger>(&self, id: TileId, side: Side, p: Point, steps: &mut Steps<L>) -> TileId
+    pub fn go_across<L: Ledger>(
+        &self,
+        id: TileId,
+        side: Side,
+        p: Point,
+        steps: &mut Steps<L>,
+    ) -> TileId
         requires past { IsPast self.now.store side p id }
         requires point { HasPoint self.now.domain p }
         ensures { Holds self.now.store result p }
