@@ -1,5 +1,5 @@
 -- What a board says of its layers, classes, kinds and nets.
-use Rattle.std.specs.Prelude.{ℕ, ◌+◌, ◌-◌, ◌*◌, ◌==◌, ℤ, pos, List, length, map, filter, slice_index_or}
+use Rattle.std.specs.Prelude.{ℕ, ◌+◌, ◌-◌, ◌*◌, ◌==◌, ℤ, pos, List, [], length, map, filter, slice_index_or}
 use Rattle.std.specs.List.{range_with_len}
 use Rattle.geo_rect.specs.declared.ids.ClassId.{ClassId}
 use Rattle.geo_rect.specs.declared.ids.KindId.{KindId}
@@ -35,3 +35,22 @@ layer_at n = record { 0 = n }
 -- the layers from the first to the last
 abbrev pub layers_from : LayerId → LayerId → List LayerId
 layers_from first last = map layer_at (range_with_len first.0 (last.0 + 1 - first.0))
+
+-- a board of this name and size on which nothing stands yet
+abbrev pub empty_parts : List ℕ → ℤ → ℤ → BoardParts
+empty_parts title width height = record {
+  name = title; width = width; height = height; layers = []; classes = []; rules = []; kind_names = []; kinds = []; pads = [];
+  blocks = []; net_names = []; net_classes = []; pins = [] }
+
+-- the name of a layer (for ids that the board lacks: no bytes), and so on
+abbrev pub layer_name : BoardParts → LayerId → List ℕ
+layer_name b l = slice_index_or b.layers l.0 []
+
+abbrev pub class_name : BoardParts → ClassId → List ℕ
+class_name b c = slice_index_or b.classes c.0 []
+
+abbrev pub kind_name : BoardParts → KindId → List ℕ
+kind_name b k = slice_index_or b.kind_names k.0 []
+
+abbrev pub net_name : BoardParts → NetId → List ℕ
+net_name b n = slice_index_or b.net_names n.0 []

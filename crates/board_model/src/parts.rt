@@ -1,4 +1,8 @@
-use geo_rect::{ClassId, LayerId, List, NetId, Rect, Text};
+ghost use Rattle.std.specs.Prelude.{◌≡◌, IfOk};
+ghost use Rattle.board_model.specs.Lookup.{empty_parts};
+
+use geo_rect::{ClassId, LayerId, List, NetId, NoMemory, Rect, Text};
+use std::alloc::Global;
 
 /// What a class of nets keeps on a layer, in micrometres.
 #[derive(Clone, Copy, Debug)]
@@ -53,4 +57,27 @@ pub struct BoardParts {
     pub net_names: List<Text>,
     pub net_classes: List<ClassId>,
     pub pins: List<Pin>,
+}
+
+impl BoardParts {
+    /// A board of this name and size, in micrometres, on which nothing stands yet: each list is empty.
+    pub fn new(alloc: Global, name: &str, width: i32, height: i32) -> Result<BoardParts, NoMemory>
+        ensures { IfOk result (λ parts. parts ≡ empty_parts name.now width height) }
+    {
+        Ok(BoardParts {
+            name: Text::from_str(alloc, name)?,
+            width,
+            height,
+            layers: List::new(alloc),
+            classes: List::new(alloc),
+            rules: List::new(alloc),
+            kind_names: List::new(alloc),
+            kinds: List::new(alloc),
+            pads: List::new(alloc),
+            blocks: List::new(alloc),
+            net_names: List::new(alloc),
+            net_classes: List::new(alloc),
+            pins: List::new(alloc),
+        })
+    }
 }

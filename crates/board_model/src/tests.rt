@@ -1,40 +1,8 @@
-ghost use Rattle.std.specs.Prelude.{◌≡◌, length, All, IfOk};
-ghost use Rattle.board_model.specs.Made.{conns_of};
-ghost use Rattle.board_model.specs.WellFormed.{IsWellFormed};
-
 use crate::boards::Board;
-use crate::boxes::{attach_boxes, target_boxes};
-use crate::conn_shapes::shapes_of;
-use crate::made::{Conn, Leg, Made, copy_conns};
 use crate::parts::{Block, BoardParts, Pin, Rule, ViaKind};
-use crate::shapes::Shape;
-use crate::states::all_shapes;
-use geo_rect::{ClassId, KindId, LayerId, List, NetId, NoMemory, Node, Rect, Spot, Text};
+use geo_rect::{ClassId, KindId, LayerId, NetId, NoMemory, Rect, Text};
 use std::alloc::Global;
-use std::process::Abort;
 use std::test::Fail;
-
-fn two_names(alloc: Global, first: &str, second: &str) -> Result<List<Text>, NoMemory> {
-    let mut list = List::new(alloc);
-    list.push(Text::from_str(alloc, first)?)?;
-    list.push(Text::from_str(alloc, second)?)?;
-    Ok(list)
-}
-
-fn kind() -> ViaKind {
-    ViaKind {
-        first: LayerId(0),
-        last: LayerId(1),
-        charge: 5,
-    }
-}
-
-fn block() -> Block {
-    Block {
-        layer: LayerId(1),
-        area: Rect::new(18, 0, 22, 14),
-    }
-}
 
 fn pin(net: u32, x: i32, last: u32) -> Pin {
     Pin {
@@ -45,244 +13,121 @@ fn pin(net: u32, x: i32, last: u32) -> Pin {
     }
 }
 
-/// Two layers, two classes, two kinds of vias, and two nets: the first has the last two pins.
-fn small_board(
-    alloc: Global,
-    width: i32,
-    pads: &[i32],
-    classes: &[ClassId],
-) -> Result<BoardParts, NoMemory> {
-    let rule = Rule { half: 1, gap: 2 };
-    Ok(BoardParts {
-        name: Text::from_str(alloc, "small")?,
-        width,
-        height: 20,
-        layers: two_names(alloc, "top", "bottom")?,
-        classes: two_names(alloc, "thin", "thick")?,
-        rules: List::from_slice(alloc, &[rule, rule, rule, rule])?,
-        kind_names: two_names(alloc, "small", "large")?,
-        kinds: List::from_slice(alloc, &[kind(), kind()])?,
-        pads: List::from_slice(alloc, pads)?,
-        blocks: List::from_slice(alloc, &[block()])?,
-        net_names: two_names(alloc, "a", "b")?,
-        net_classes: List::from_slice(alloc, classes)?,
-        pins: List::from_slice(alloc, &[pin(1, 24, 0), pin(0, 3, 1), pin(0, 9, 1)])?,
+/// Two layers and two classes, with their rules.
+fn add_layers(alloc: Global, parts: &mut BoardParts) -> Result<(), NoMemory> {
+    parts.layers.push(Text::from_str(alloc, "top")?)?;
+    parts.layers.push(Text::from_str(alloc, "bottom")?)?;
+    parts.classes.push(Text::from_str(alloc, "thin")?)?;
+    parts.classes.push(Text::from_str(alloc, "thick")?)?;
+    for _ in 0..4 {
+        parts.rules.push(Rule { half: 1, gap: 2 })?;
+    }
+    Ok(())
+}
+
+/// One kind of via, with its pads.
+fn add_kind(alloc: Global, parts: &mut BoardParts) -> Result<(), NoMemory> {
+    parts.kind_names.push(Text::from_str(alloc, "small")?)?;
+    parts.kinds.push(ViaKind {
+        first: LayerId(0),
+        last: LayerId(1),
+        charge: 5,
+    })?;
+    parts.pads.push(2)?;
+    parts.pads.push(3)
+}
+
+/// Two nets, of which the first has the last two pins, and a blockage.
+fn add_nets(alloc: Global, parts: &mut BoardParts) -> Result<(), NoMemory> {
+    parts.net_names.push(Text::from_str(alloc, "a")?)?;
+    parts.net_names.push(Text::from_str(alloc, "b")?)?;
+    parts.net_classes.push(ClassId(0))?;
+    parts.net_classes.push(ClassId(1))?;
+    parts.pins.push(pin(1, 24, 0))?;
+    parts.pins.push(pin(0, 3, 1))?;
+    parts.pins.push(pin(0, 9, 1))?;
+    parts.blocks.push(Block {
+        layer: LayerId(1),
+        area: Rect::new(18, 0, 22, 14),
     })
 }
 
-fn is_small_board(
-    alloc: Global,
-    width: i32,
-    pads: &[i32],
-    classes: &[ClassId],
-) -> Result<bool, NoMemory> {
-    let parts = small_board(alloc, width, pads, classes)?;
-    Ok(parts.is_board())
+fn fill(alloc: Global, parts: &mut BoardParts) -> Result<(), NoMemory> {
+    add_layers(alloc, parts)?;
+    add_kind(alloc, parts)?;
+    add_nets(alloc, parts)
 }
 
-fn build(rt: &impl Abort, alloc: Global) -> Result<Board, NoMemory>
-    ensures layers { IfOk result (λ board. length board.parts.layers ≡ 2) }
-    ensures kinds { IfOk result (λ board. length board.parts.kinds ≡ 2) }
-    ensures nets { IfOk result (λ board. length board.parts.net_names ≡ 2) }
-{
-    let parts = small_board(alloc, 40, &[2, 3, 4, 5], &[ClassId(0), ClassId(1)])?;
-    assert!(rt; parts.is_board());
-    let board = Board::build(alloc, parts)?;
-    assert!(rt; board.layers() == 2);
-    assert!(rt; board.kinds() == 2);
-    assert!(rt; board.nets() == 2);
-    Ok(board)
+/// Whether the lists are those of a board once the width is this.
+fn is_board_of_width(parts: &mut BoardParts, width: i32) -> bool {
+    parts.width = width;
+    parts.is_board()
+}
+
+fn tells_boards(parts: &mut BoardParts) -> bool {
+    if is_board_of_width(parts, 1_048_577) {
+        return false;
+    }
+    if is_board_of_width(parts, 23) {
+        return false;
+    }
+    if !is_board_of_width(parts, 24) {
+        return false;
+    }
+    is_board_of_width(parts, 1_048_576)
 }
 
 #[test]
 fn boards_and_broken_boards(rt: HostRuntime) -> Result<(), Fail> {
-    let alloc = rt.alloc();
-    let pads = [2, 3, 4, 5];
-    let classes = [ClassId(0), ClassId(1)];
-    assert!(rt; is_small_board(alloc, 24, &pads, &classes)?);
-    assert!(rt; is_small_board(alloc, 1_048_576, &pads, &classes)?);
-    assert!(rt; !is_small_board(alloc, 1_048_577, &pads, &classes)?);
-    assert!(rt;
-        !is_small_board(alloc, 23, &pads, &classes)?,
-        "a pin leaves it"
-    );
-    assert!(rt; !is_small_board(alloc, 40, &[2, 3, 4], &classes)?);
-    assert!(rt; !is_small_board(alloc, 40, &pads, &[ClassId(0), ClassId(2)])?);
+    let mut parts = BoardParts::new(rt.alloc(), "small", 40, 20)?;
+    assert!(rt; !parts.is_board(), "no layer");
+    fill(rt.alloc(), &mut parts)?;
+    assert!(rt; tells_boards(&mut parts));
     Ok(())
 }
 
-#[test]
-fn names_are_found(rt: HostRuntime) -> Result<(), Fail> {
-    let board = build(&rt, rt.alloc())?;
-    assert_eq!(rt; board.find_layer("bottom"), Some(LayerId(1)));
-    assert_eq!(rt; board.find_class("thin"), Some(ClassId(0)));
-    assert_eq!(rt; board.find_kind("large"), Some(KindId(1)));
-    assert_eq!(rt; board.find_net("b"), Some(NetId(1)));
-    assert_eq!(rt; board.find_net("top"), None);
-    Ok(())
-}
-
-#[test]
-fn pins_of_a_net(rt: HostRuntime) -> Result<(), Fail> {
-    let board = build(&rt, rt.alloc())?;
-    assert!(rt; board.pin_count(NetId(0)) == 2);
-    assert_eq!(rt; board.nth_pin(NetId(0), 1).area.x0, 9);
-    Ok(())
-}
-
-#[test]
-fn shapes_of_a_board(rt: HostRuntime) -> Result<(), Fail> {
-    let board = build(&rt, rt.alloc())?;
-    let made = Made::none(rt.alloc(), &board)?;
-    let shapes = all_shapes(rt.alloc(), &board, &made)?;
-    assert_eq!(rt; shapes.len(), 6);
-    assert_eq!(rt; shapes.as_slice()[5].layer, LayerId(1));
-    assert_eq!(rt; shapes.as_slice()[0].owner, None);
-    Ok(())
-}
-
-/// A wire of net a from its first pin to its second, and a via there.
-fn wire_and_via(alloc: Global, board: &Board) -> Result<Conn, NoMemory>
-    requires layers { length board.now.parts.layers ≡ 2 }
-    requires kinds { length board.now.parts.kinds ≡ 2 }
-    ensures { IfOk result (λ conn. IsWellFormed board.now.parts conn) }
-{
-    let start = Node {
-        x: 3,
-        y: 5,
-        layer: LayerId(0),
-    };
-    let corner = Node {
-        x: 9,
-        y: 5,
-        layer: LayerId(0),
-    };
-    let end = Node {
-        x: 9,
-        y: 5,
-        layer: LayerId(1),
-    };
-    let legs = List::from_slice(alloc, &[Leg::Wire(corner), Leg::Via(KindId(0), end)])?;
-    Ok(Conn {
-        start,
-        legs,
-        cost: 11,
-    })
-}
-
-/// That connection of net a, and no other.
-fn one_made(alloc: Global, board: &Board) -> Result<Made, NoMemory>
-    requires layers { length board.now.parts.layers ≡ 2 }
-    requires kinds { length board.now.parts.kinds ≡ 2 }
-    requires nets { length board.now.parts.net_names ≡ 2 }
-    ensures nets { IfOk result (λ made. length made.lists ≡ length board.now.parts.net_names) }
-    ensures one { IfOk result (λ made. length (conns_of made.lists (record { 0 = 0 })) ≡ 1) }
-    ensures well_formed { IfOk result (λ made.
-        All (IsWellFormed board.now.parts) (conns_of made.lists (record { 0 = 0 }))) }
-{
-    let conn = wire_and_via(alloc, board)?;
-    let mut made = Made::none(alloc, board)?;
-    made.append(NetId(0), conn)?;
-    Ok(made)
-}
-
-fn copper(layer: u32, area: Rect) -> Shape {
-    Shape {
-        area,
-        layer: LayerId(layer),
-        owner: Some(NetId(0)),
-    }
-}
-
-fn spot(layer: u32, area: Rect) -> Spot {
-    Spot {
-        layer: LayerId(layer),
-        area,
-    }
-}
-
-/// The shapes of the wire and the via.
-fn found_shapes(alloc: Global, board: &Board) -> Result<List<Shape>, NoMemory>
-    requires layers { length board.now.parts.layers ≡ 2 }
-    requires kinds { length board.now.parts.kinds ≡ 2 }
-    requires nets { length board.now.parts.net_names ≡ 2 }
-{
-    let conn = wire_and_via(alloc, board)?;
-    shapes_of(alloc, board, NetId(0), &conn)
-}
-
-fn are_wire_and_pads(shapes: &[Shape]) -> bool {
-    let wire = Rect::new(2, 4, 10, 6);
-    let pad = Rect::new(7, 3, 11, 7);
-    let expected = [copper(0, wire), copper(0, pad), copper(1, pad)];
-    shapes == expected.as_slice()
-}
-
-#[test]
-fn shapes_of_a_connection(rt: HostRuntime) -> Result<(), Fail> {
-    let board = build(&rt, rt.alloc())?;
-    let shapes = found_shapes(rt.alloc(), &board)?;
-    assert!(rt; are_wire_and_pads(shapes.as_slice()));
-    Ok(())
-}
-
-fn are_two_pins(boxes: &[Spot]) -> bool {
-    let a = Rect::new(3, 5, 3, 5);
-    let b = Rect::new(9, 5, 9, 5);
-    let expected = [spot(0, a), spot(1, a), spot(0, b), spot(1, b)];
-    boxes == expected.as_slice()
-}
-
-fn are_line_and_point(boxes: &[Spot]) -> bool {
-    let line = Rect::new(3, 5, 9, 5);
-    let b = Rect::new(9, 5, 9, 5);
-    let expected = [spot(0, line), spot(0, b), spot(1, b)];
-    boxes == expected.as_slice()
-}
-
-/// Whether the boxes are those of net a's pins and then of its wire and its via.
-fn are_sources(boxes: &[Spot]) -> bool {
-    if boxes.len() != 7 {
+fn knows_its_names(board: &Board) -> bool {
+    if board.find_layer("bottom") != Some(LayerId(1)) {
         return false;
     }
-    if !are_two_pins(&boxes[..4]) {
+    if board.find_class("thin") != Some(ClassId(0)) {
         return false;
     }
-    are_line_and_point(&boxes[4..])
+    if board.find_kind("small") != Some(KindId(0)) {
+        return false;
+    }
+    board.find_net("top") == None
+}
+
+/// Whether the board has a net b, and its other net has its pins in the order of the text.
+fn has_its_pins(board: &Board) -> bool {
+    if board.find_net("b") != Some(NetId(1)) {
+        return false;
+    }
+    if board.nets() != 2 {
+        return false;
+    }
+    if board.pin_count(NetId(0)) != 2 {
+        return false;
+    }
+    board.nth_pin(NetId(0), 1).area.x0 == 9
+}
+
+fn small_board(alloc: Global) -> Result<Option<Board>, NoMemory> {
+    let mut parts = BoardParts::new(alloc, "small", 40, 20)?;
+    fill(alloc, &mut parts)?;
+    if parts.is_board() {
+        return Ok(Some(Board::build(alloc, parts)?));
+    }
+    Ok(None)
 }
 
 #[test]
-fn sources_of_a_net(rt: HostRuntime) -> Result<(), Fail> {
-    let board = build(&rt, rt.alloc())?;
-    assert!(rt; board.pin_count(NetId(0)) == 2);
-    let made = one_made(rt.alloc(), &board)?;
-    let boxes = attach_boxes(rt.alloc(), &board, &made, NetId(0))?;
-    assert!(rt; are_sources(boxes.as_slice()));
-    Ok(())
-}
-
-fn are_targets(boxes: &[Spot]) -> bool {
-    let b = Rect::new(9, 5, 9, 5);
-    let expected = [spot(0, b), spot(1, b)];
-    boxes == expected.as_slice()
-}
-
-#[test]
-fn targets_of_a_net(rt: HostRuntime) -> Result<(), Fail> {
-    let board = build(&rt, rt.alloc())?;
-    assert!(rt; board.pin_count(NetId(0)) == 2);
-    let boxes = target_boxes(rt.alloc(), &board, NetId(0), 1)?;
-    assert!(rt; are_targets(boxes.as_slice()));
-    Ok(())
-}
-
-#[test]
-fn connections_come_and_go(rt: HostRuntime) -> Result<(), Fail> {
-    let board = build(&rt, rt.alloc())?;
-    let mut made = one_made(rt.alloc(), &board)?;
-    let copy = copy_conns(rt.alloc(), made.conns(NetId(0)))?;
-    assert_eq!(rt; copy.len(), 1);
-    made.clear(NetId(0));
-    assert!(rt; made.conns(NetId(0)).is_empty());
+fn names_and_pins_are_found(rt: HostRuntime) -> Result<(), Fail> {
+    let found = match small_board(rt.alloc())? {
+        Some(board) => knows_its_names(&board) && has_its_pins(&board),
+        None => false,
+    };
+    assert!(rt; found);
     Ok(())
 }
