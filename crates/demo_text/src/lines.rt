@@ -39,7 +39,7 @@ fn found_by(reply: &Reply) -> &[Violation]
 }
 
 /// The line that sums up a demonstration of `n` nets, from the replies to `all` and to `rules`.
-#[tactic(auto, unfolding(crate::specs::Summary::summary), using(crate::proofs::Counted::reply_counted))]
+#[tactic(auto, unfolding(crate::specs::Summary::summary))]
 pub fn summary(alloc: Global, n: u32, all: &Reply, rules: &Reply) -> Result<List<u8>, NoMemory>
     requires { IsReplyTo Command.All all.now }
     ensures { IfOk result (λ text. text ≡ summary n all.now rules.now) }
