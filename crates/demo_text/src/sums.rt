@@ -58,9 +58,9 @@ pub fn cost_in(nets: &[Routed]) -> u128
     requires { AreCounted nets.now }
     ensures { result ≡ cost_in nets.now }
 {
-    let mut cost = 0;
+    let mut sum = 0;
     for net in nets {
-        cost += cost_of_net(net);
+        sum += cost_of_net(net);
     }
-    cost
+    sum
 }

@@ -5,6 +5,6 @@ use Rattle.demo_text.proofs.sums.cost_in.Given as goal
 -- the costs of the nets so far were added, and each is small
 abbrev pub invariant-loop-net : goal.invariant-loop-net
 invariant-loop-net l = record {
-  total : l.cost ≡ cost_in (take l.net-index l.nets);
-  small : l.cost ≤ 2 ^ 104 * l.net-index;
+  total : l.sum ≡ cost_in (take l.net-index l.nets);
+  small : l.sum ≤ 2 ^ 104 * l.net-index;
 }
