@@ -8,4 +8,4 @@ pub build-requires : goal.build-requires
 build-requires c = subst IsBoard (sym c.say-said.ensures.parts) (is-board c.args.self c.requires.draft c.requires.ended)
 
 pub returns : goal.returns
-returns c = same-told c.args.self c.in_ok-board.board.parts (c.in_ok-board.ensures ∙ c.say-said.ensures.parts)
+returns c = same-told c.args.self c.in_ok-board.board.parts _ (c.in_ok-board.ensures ∙ c.say-said.ensures.parts) c.say-said.ensures.commands
