@@ -15,7 +15,6 @@ use Rattle.board_reader.specs.declared.refusals.ReadInput.TheVariants as input
 use Rattle.board_reader.specs.Contract.{told_by, TellsReading}
 use Rattle.board_reader.specs.Reading.{reading, Told}
 use Rattle.board_text.specs.Spelled.{told_of}
-use Rattle.demo_text.specs.Bounds.{IsReplyTo}
 use Rattle.demo_text.specs.Summary.{summary}
 use Rattle.reply_text.specs.Texts.{reply_text, replies_text}
 use Rattle.route_law.specs.declared.replies.Reply.{Reply}
@@ -37,10 +36,12 @@ join_two x y = ap (λ z. x ++ z) (sym (append-nil y))
 join_three : (x y z : List ℕ) → x ++ (y ++ z) ≡ (x ++ (y ++ [])) ++ z
 join_three x y z = sym (append_assoc x y z) ∙ ap (λ w. w ++ z) (join_two x y)
 
--- a reply to `all` is one of its board
-pub reply_to_all : (b b' : BoardParts) (lists mid : List (List Conn)) (first : Reply) (held holds : Option (List ℕ)) → IsBoard b → b' ≡ b → AnswersWith b' true lists command.All first mid held holds → IsReplyTo command.All first
-reply_to_all b b' lists mid first held holds board same a =
-    record { board = b'; keeps_rules = subst IsBoard (sym same) board; old = lists; new = mid; step = a.step }
+-- the reply to `all` in a session on this board in which nothing is made
+pub answers_at : (b b' : BoardParts) (lists mid : List (List Conn)) (first : Reply) (held holds : Option (List ℕ)) → b' ≡ b → lists ≡ nothing_made b → AnswersWith b' true lists command.All first mid held holds → AnswersWith b true (nothing_made b) command.All first mid held holds
+answers_at b b' lists mid first held holds same none a =
+    let P : List (List Conn) → Type 0 = λ ls. AnswersWith b true ls command.All first mid held holds in
+    let Q : BoardParts → Type 0 = λ x. AnswersWith x true lists command.All first mid held holds in
+    subst P none (subst Q same a)
 
 module _ (b : BoardParts) (board : IsBoard b) (n : ℕ) where
   -- after the reply to `all`
