@@ -1,7 +1,7 @@
 -- The replies of a demonstration and their summary, written one after another.
 use Rattle.std.proofs.Common.{◌≡◌, ℕ, ◌≤◌, inl, inr, true, List, [], ◌∷◌, ◌++◌, All, Option, Ok, Err, refl, sym, ap, ◌∙◌, subst, append_assoc, append-nil, arith}
 use Rattle.std.proofs.lemmas.List.Elements.{All-nil, All-cons}
-use Rattle.io_edge.specs.Streams.{Appends, AppendsPart}
+use Rattle.io_edge.specs.Streams.{Appends}
 use Rattle.board_gen.specs.Generated.{asked, generated, generated_board}
 use Rattle.board_gen.proofs.GoodBoard.{asked-of-any, generated-is-board, generated-is-read}
 use Rattle.board_model.specs.declared.commands.Command.{Command}
@@ -16,7 +16,7 @@ use Rattle.board_reader.specs.Contract.{told_by, TellsReading}
 use Rattle.board_reader.specs.Reading.{reading, Told}
 use Rattle.board_text.specs.Spelled.{told_of}
 use Rattle.demo_text.specs.Summary.{summary}
-use Rattle.reply_text.specs.Texts.{reply_text, replies_text}
+use Rattle.reply_text.specs.Texts.{reply_text}
 use Rattle.route_law.specs.declared.replies.Reply.{Reply}
 use Rattle.route_law.specs.Regular.{IsRegular}
 use Rattle.route_law.specs.Steps.{nothing_made}
@@ -26,7 +26,7 @@ use Rattle.contour.specs.Answers.{AreReplies, AnswersFirst}
 use Rattle.contour.specs.Demos.{IsOfGenerated, SumsUp, CutsSummary, SumsUpInPart, EndsSummary, EndsDemo, Finishes, FinishesInPart, EndsFinish}
 use Rattle.contour.specs.Endings.{EndsAnswer, EndsAnswers, EndsSending, ending_of_input}
 use Rattle.contour.specs.Requests.{IsSize}
-use Rattle.contour.specs.Sessions.{IsUnderway, AnswersOne, AnswersPart, AnswersWith}
+use Rattle.contour.specs.Sessions.{IsUnderway, AnswersOne, AnswersWith}
 use Rattle.contour.proofs.Replied.{Appends-join, underway_none, underway_more, keeps_rules, answers_first, cut_short, ends_all, rose-from}
 
 -- two texts, one after the other, as the text of a list of two
@@ -89,11 +89,13 @@ module _ (b : BoardParts) (board : IsBoard b) (n : ℕ) where
     ends_summary holds begun before after falls (Refused r) h = h
     ends_summary holds begun before after falls (Wrong m) h = h
     ends_summary holds begun before after falls ReadFault h = h
-    ends_summary holds begun before after falls WriteFault h =
-        (rose-from begun before after falls h.0, elim h.1 as (λ _. SumsUpInPart b asked n held holds) [
-          | inl part ↦ inl (cut_short b board true asked 1 command.All mid held between holds (omega arith) (asked-of-any b) one_reply part)
-          | inr f ↦ inr (cuts_summary holds f)
-        ])
+    ends_summary holds begun before after falls WriteFault h = (
+      rose-from begun before after falls h.0,
+      elim h.1 as (λ _. SumsUpInPart b asked n held holds) [
+        | inl part ↦ inl (cut_short b board true asked 1 command.All mid held between holds (omega arith) (asked-of-any b) one_reply part)
+        | inr f ↦ inr (cuts_summary holds f)
+      ],
+    )
     ends_summary holds begun before after falls NoMemory h =
         elim h as (λ _. AnswersFirst b true asked held holds) [
           | inl same ↦ subst (λ (x : Option (List ℕ)). AnswersFirst b true asked held x) (sym same) (answers_first b board true asked 1 mid held between (asked-of-any b) one_reply)

@@ -8,7 +8,7 @@ use Rattle.board_model.specs.declared.made.Conn.{Conn}
 use Rattle.board_model.specs.declared.parts.BoardParts.{BoardParts}
 use Rattle.board_reader.specs.Reading.{reading, Told}
 use Rattle.demo_text.specs.Summary.{summary}
-use Rattle.reply_text.specs.Texts.{reply_text, replies_text}
+use Rattle.reply_text.specs.Texts.{replies_text}
 use Rattle.route_law.specs.declared.replies.Reply.{Reply}
 use Rattle.contour.specs.declared.endings.Ending.{Ending}
 use Rattle.contour.specs.declared.endings.Ending.TheVariants.{BadWords, TooLong, Refused, Wrong, ReadFault, WriteFault, NoMemory}

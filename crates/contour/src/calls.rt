@@ -175,7 +175,7 @@ pub fn contour<S: Source, K: Sink, E: Sink>(
     ensures wrong { result ≡ Status.Wrong → IsRequestThat (map string_bytes words.now) (HasFoundWrong (S.left source.old)) }
 
     // What was written when the call ended early: nothing, or whole replies to the first commands,
-    // and at a fault of the output then a part of the next.
+    // and at a fault of the output then a part of the next, or of a summary.
     ensures unwritten { IsUnwritten result → out.new ≡ out.old }
     ensures cut_short { result ≡ Status.WriteFault → IsRequestThat (map string_bytes words.now)
         (HasBeenCut (S.left source.old) (K.written out.old) (K.written out.new)) }

@@ -1,9 +1,8 @@
 //! A demonstration: a generated board text is read, its two commands are answered, and the replies are
 //! summed up.
-ghost use Rattle.std.specs.Prelude.{◌≡◌, ◌≤◌, [], ◌∷◌, OnOk, IfErr};
+ghost use Rattle.std.specs.Prelude.{◌≡◌, ◌≤◌, OnOk, IfErr};
 ghost use Rattle.io_edge.specs.Streams.{Appends};
 ghost use Rattle.board_gen.specs.Generated.{asked};
-ghost use Rattle.board_model.specs.Commands.{IsCommandOf};
 ghost use Rattle.demo_text.specs.Bounds.{IsReplyTo};
 ghost use Rattle.demo_text.specs.Summary.{summary};
 ghost use Rattle.contour.specs.Demos.{EndsDemo, EndsFinish, EndsSummary, Finishes, IsOfGenerated, SumsUp};

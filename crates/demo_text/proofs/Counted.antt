@@ -1,5 +1,5 @@
 -- The sums of a summary are small: a leg costs at most 2^26, and a board has few nets and pins.
-use Rattle.std.proofs.Common.{◌≡◌, ℕ, ◌+◌, ◌*◌, ◌-◌, ◌^◌, ◌<◌, ◌≤◌, ℤ, List, [], ◌∷◌, length, Option, Some, None, All, sym, ap, ◌∙◌, arith}
+use Rattle.std.proofs.Common.{◌≡◌, ℕ, ◌+◌, ◌*◌, ◌-◌, ◌^◌, ◌<◌, ◌≤◌, ℤ, List, [], ◌∷◌, length, Option, Some, None, All, ap, arith}
 use Rattle.std.specs.Prelude.{Bool, ◌==◌}
 use Rattle.std.proofs.lemmas.Int.{ints}
 use Rattle.std.proofs.lemmas.List.Elements.{All-nil, All-cons, All-get_or}
@@ -8,22 +8,20 @@ use Rattle.geo_rect.specs.declared.ids.KindId.{KindId}
 use Rattle.geo_rect.specs.declared.ids.NetId.{NetId}
 use Rattle.geo_rect.specs.declared.ids.Node.{Node}
 use Rattle.geo_rect.specs.declared.ids.Spot.{Spot}
-use Rattle.geo_rect.specs.declared.shapes.Point.{Point}
 use Rattle.geo_rect.specs.Distance.{apart}
 use Rattle.geo_rect.specs.Line.{between}
 use Rattle.board_model.specs.declared.commands.Command.{Command}
-use Rattle.board_model.specs.declared.commands.Command.TheVariants as command
 use Rattle.board_model.specs.declared.made.Conn.{Conn}
 use Rattle.board_model.specs.declared.made.Leg.{Leg}
 use Rattle.board_model.specs.declared.made.Leg.TheVariants.{Wire, Via}
 use Rattle.board_model.specs.declared.parts.BoardParts.{BoardParts}
 use Rattle.board_model.specs.declared.parts.Pin.{Pin}
 use Rattle.board_model.specs.declared.shapes.Shape.{Shape}
-use Rattle.board_model.specs.Lookup.{kind_of, pins_of}
+use Rattle.board_model.specs.Lookup.{kind_of}
 use Rattle.board_model.specs.Made.{with_conn}
 use Rattle.board_model.specs.Rules.{IsBoard, IsKind}
-use Rattle.board_model.specs.Shapes.{place_of, end_of}
-use Rattle.board_model.specs.WellFormed.{IsCoordinate, IsCorner, IsPlace, IsStep as IsLegStep, AreSteps}
+use Rattle.board_model.specs.Shapes.{end_of}
+use Rattle.board_model.specs.WellFormed.{IsCoordinate, IsCorner, IsStep as IsLegStep, AreSteps}
 use Rattle.route_law.specs.declared.replies.Fail.{Fail}
 use Rattle.route_law.specs.declared.replies.Made1.{Made1}
 use Rattle.route_law.specs.declared.replies.Reply.{Reply}

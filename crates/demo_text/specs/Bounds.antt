@@ -1,5 +1,5 @@
 -- What keeps the sums of a summary small.
-use Rattle.std.specs.Prelude.{ℕ, ◌*◌, ◌^◌, ◌≤◌, List, length, All}
+use Rattle.std.specs.Prelude.{◌*◌, ◌^◌, ◌≤◌, List, length, All}
 use Rattle.board_model.specs.declared.commands.Command.{Command}
 use Rattle.board_model.specs.declared.limits.TheConstants.{MAX_NETS, MAX_PINS}
 use Rattle.board_model.specs.declared.made.Conn.{Conn}

@@ -1,4 +1,4 @@
-ghost use Rattle.std.specs.Prelude.{◌≡◌, ◌++◌, length, IfOk, OnOk, decimal};
+ghost use Rattle.std.specs.Prelude.{◌≡◌, ◌++◌, IfOk, OnOk, decimal};
 ghost use Rattle.demo_text.specs.Bounds.{IsReplyTo};
 ghost use Rattle.demo_text.specs.Summary.{found_by, nets_of, summary};
 

@@ -1,5 +1,5 @@
 //! Sums over what came of each net.
-ghost use Rattle.std.specs.Prelude.{◌≡◌, ◌<◌, ◌≤◌, ◌*◌, ◌^◌, length, All, sum_by};
+ghost use Rattle.std.specs.Prelude.{◌≡◌, ◌<◌, ◌≤◌, ◌^◌};
 ghost use Rattle.demo_text.specs.Bounds.{AreCounted, HasPricedLegs, IsCounted};
 ghost use Rattle.demo_text.specs.Summary.{cost_in, cost_of, cost_of_net, made_in, missing_in};
 

@@ -1,11 +1,8 @@
-use Rattle.std.proofs.Common.{◌≡◌, ◌∙◌, true, List, OnOk, IfErr, IsErrAnd, sym, subst}
+use Rattle.std.proofs.Common.{◌∙◌, OnOk, IfErr, sym, subst}
 use Rattle.std.proofs.lemmas.Result.{IfErr-weaker, on_ok_weaker}
 use Rattle.board_gen.specs.Generated.{asked}
-use Rattle.board_model.specs.declared.commands.Command.TheVariants as command
-use Rattle.board_model.specs.declared.made.Conn.{Conn}
 use Rattle.board_model.specs.declared.parts.BoardParts.{BoardParts}
 use Rattle.contour.specs.Demos.{EndsFinish, EndsSummary, Finishes}
-use Rattle.contour.specs.Sessions.{AnswersWith}
 use Rattle.contour.proofs.Sent.{if_err_and}
 use Rattle.contour.proofs.SummedUp.{answers_at, ends_first, ends_summary, none_written, sums_up}
 use Rattle.contour.proofs.demos.demonstrate.Goals as goal
