@@ -3,8 +3,8 @@
 use crate::connector::CONNECTOR;
 use crate::endings::Status;
 use crate::reader_tests::{add, changed};
-use crate::tests::{expect, expect_told};
-use io_edge::{MemSink, MemSource};
+use crate::tests::{expect, expect_into};
+use io_edge::MemSink;
 use std::alloc::Global;
 use std::process::Abort;
 use std::str::from_utf8;
@@ -51,9 +51,8 @@ fn expect_parts(
     text: &[u8],
     wanted: &str,
 ) -> Result<(), Fail> {
-    let mut source = MemSource::new(rt.alloc(), text, 4096, &[])?;
     let mut out = MemSink::new(rt.alloc(), 16384, 4096, &[])?;
-    expect_told(rt, words, &mut source, &mut out, Status::Done, "")?;
+    expect_into(rt, words, text, &mut out, Status::Done, "")?;
     has_in_order(rt, from_utf8(out.held.as_slice())?, wanted);
     Ok(())
 }
@@ -131,9 +130,9 @@ fn has_lines(rt: &impl Abort, out: &str, wanted: &[&str]) {
 
 #[test]
 fn one_net_is_demonstrated(rt: HostRuntime) -> Result<(), Fail> {
-    let mut source = MemSource::new(rt.alloc(), b"not read", 4096, &[1])?;
     let mut out = MemSink::new(rt.alloc(), 4096, 4096, &[])?;
-    expect_told(&rt, &["demo", "1"], &mut source, &mut out, Status::Done, "")?;
+    let words = ["demo", "1"];
+    expect_into(&rt, &words, b"not read", &mut out, Status::Done, "")?;
     has_lines(&rt, from_utf8(out.held.as_slice())?, &ONE_NET);
     Ok(())
 }

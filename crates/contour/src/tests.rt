@@ -109,7 +109,7 @@ fn ended(
 }
 
 /// Runs the program over these streams and looks at its status and its line on standard error.
-pub fn expect_told(
+fn expect_told(
     rt: &(impl Abort + AllocGlobal),
     words: &[&str],
     source: &mut MemSource,
@@ -137,6 +137,19 @@ fn expect_from(
     expect_told(rt, words, source, &mut output, status, err)?;
     assert_eq!(rt; output.held.as_slice(), out.as_bytes());
     Ok(())
+}
+
+/// Runs the program on this text, into this sink, and looks at its status and its line on standard error.
+pub fn expect_into(
+    rt: &(impl Abort + AllocGlobal),
+    words: &[&str],
+    text: &[u8],
+    out: &mut MemSink,
+    status: Status,
+    err: &str,
+) -> Result<(), Fail> {
+    let mut source = MemSource::new(rt.alloc(), text, 4096, &[])?;
+    expect_told(rt, words, &mut source, out, status, err)
 }
 
 /// Runs the program on this text and looks at its status, its output and its line on standard error.
@@ -266,10 +279,16 @@ fn a_failed_read_ends_the_call(rt: HostRuntime) -> Result<(), Fail> {
 
 /// Runs the program on the text of a route, into a sink of which a call fails.
 fn expect_cut(rt: &(impl Abort + AllocGlobal), failing: u64, held: &str) -> Result<(), Fail> {
-    let mut source = MemSource::new(rt.alloc(), ROUTED.as_bytes(), 4096, &[])?;
     let mut out = MemSink::new(rt.alloc(), 4096, 10, &[failing])?;
-    let err = "write fault\n";
-    expect_told(rt, &["run"], &mut source, &mut out, Status::WriteFault, err)?;
+    let text = ROUTED.as_bytes();
+    expect_into(
+        rt,
+        &["run"],
+        text,
+        &mut out,
+        Status::WriteFault,
+        "write fault\n",
+    )?;
     assert_eq!(rt; out.held.as_slice(), held.as_bytes());
     Ok(())
 }
@@ -281,20 +300,30 @@ fn a_failed_write_ends_the_call(rt: HostRuntime) -> Result<(), Fail> {
     expect_cut(&rt, 3, "route a made 1 of 1\n")
 }
 
-/// Runs the program over streams of which these calls fail, and each of standard error.
+/// Runs the program over these streams, where its line on standard error cannot be written.
 fn expect_untold(
     rt: &(impl Abort + AllocGlobal),
     words: &[&str],
     source: &mut MemSource,
-    writes: u64,
+    out: &mut MemSink,
     status: Status,
 ) -> Result<(), Fail> {
-    let mut out = MemSink::new(rt.alloc(), 4096, 4096, &[writes])?;
     let mut err = MemSink::new(rt.alloc(), 64, 64, &[1])?;
-    let ended = ended(rt.alloc(), words, source, &mut out, &mut err)?;
-    assert_eq!(rt; ended, status);
+    assert_eq!(rt; ended(rt.alloc(), words, source, out, &mut err)?, status);
     assert_eq!(rt; err.held.len(), 0);
     Ok(())
+}
+
+/// The same, into a sink of which a call fails.
+fn expect_untold_into(
+    rt: &(impl Abort + AllocGlobal),
+    words: &[&str],
+    source: &mut MemSource,
+    failing: u64,
+    status: Status,
+) -> Result<(), Fail> {
+    let mut out = MemSink::new(rt.alloc(), 4096, 4096, &[failing])?;
+    expect_untold(rt, words, source, &mut out, status)
 }
 
 #[test]
@@ -307,16 +336,21 @@ fn a_fault_of_err_changes_no_status(rt: HostRuntime) -> Result<(), Fail> {
         ("run", PLAIN, 0, 1, Status::WriteFault),
     ] {
         let mut source = MemSource::new(rt.alloc(), text.as_bytes(), 4096, &[reads])?;
-        expect_untold(&rt, &[word], &mut source, writes, status)?;
+        expect_untold_into(&rt, &[word], &mut source, writes, status)?;
     }
     Ok(())
 }
 
 #[test]
-fn small_pieces_change_nothing(rt: HostRuntime) -> Result<(), Fail> {
+fn small_pieces_change_no_input(rt: HostRuntime) -> Result<(), Fail> {
     let mut source = MemSource::new(rt.alloc(), CLOSE.as_bytes(), 7, &[])?;
+    expect_from(&rt, &["run"], &mut source, Status::Done, CLOSE_REPLY, "")
+}
+
+#[test]
+fn small_pieces_change_no_output(rt: HostRuntime) -> Result<(), Fail> {
     let mut out = MemSink::new(rt.alloc(), 4096, 5, &[])?;
-    expect_told(&rt, &["run"], &mut source, &mut out, Status::Done, "")?;
+    expect_into(&rt, &["run"], CLOSE.as_bytes(), &mut out, Status::Done, "")?;
     assert_eq!(rt; out.held.as_slice(), CLOSE_REPLY.as_bytes());
     Ok(())
 }
