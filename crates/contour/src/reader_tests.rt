@@ -156,17 +156,44 @@ fn refusal_of(alloc: Global, bytes: &[u8]) -> Result<(u64, u64), Fail> {
     }
 }
 
+/// A case: the lines for which its text stands, and the line and the kind of the refusal.
+#[derive(Clone, Copy)]
+struct Case<'a> {
+    first: u64,
+    last: u64,
+    line: u64,
+    kind: u64,
+    text: &'a str,
+}
+
+fn case_of<'a>(case: &'a str) -> Result<Case<'a>, Fail> {
+    let (numbers, text) = case.split_once('|').ok_or("a case has a text")?;
+    let mut numbers = numbers.split(' ');
+    Ok(Case {
+        first: number(numbers.next())?,
+        last: number(numbers.next())?,
+        line: number(numbers.next())?,
+        kind: number(numbers.next())?,
+        text,
+    })
+}
+
+/// Reads the text of a case, and looks at the refusal.
+fn expect_refusal(rt: &(impl Abort + AllocGlobal), case: &str) -> Result<(), Fail> {
+    let wanted = case_of(case)?;
+    let bytes = changed(rt.alloc(), wanted.first, wanted.last, wanted.text)?;
+    assert_eq!(rt;
+        refusal_of(rt.alloc(), &bytes)?,
+        (wanted.line, wanted.kind),
+        "{case}"
+    );
+    Ok(())
+}
+
 #[test]
 fn tells_the_first_line_and_kind(rt: HostRuntime) -> Result<(), Fail> {
     for case in CASES.split('\n') {
-        let (numbers, text) = case.split_once('|').ok_or("a case has a text")?;
-        let mut numbers = numbers.split(' ');
-        let first = number(numbers.next())?;
-        let last = number(numbers.next())?;
-        let line = number(numbers.next())?;
-        let kind = number(numbers.next())?;
-        let bytes = changed(rt.alloc(), first, last, text)?;
-        assert_eq!(rt; refusal_of(rt.alloc(), &bytes)?, (line, kind), "{case}");
+        expect_refusal(&rt, case)?;
     }
     Ok(())
 }
@@ -196,17 +223,29 @@ fn cut_of(bytes: &[u8]) -> (u64, u64, u64) {
     }
 }
 
+/// The ends and the line of a case.
+fn wanted_cut(numbers: &str) -> Result<(u64, u64, u64), Fail> {
+    let mut numbers = numbers.split(' ');
+    let end = number(numbers.next())?;
+    let start = number(numbers.next())?;
+    let line = number(numbers.next())?;
+    Ok((end, start, line))
+}
+
+/// Cuts the text of a case, and looks at the ends and the line.
+fn expect_cut(rt: &(impl Abort + AllocGlobal), case: &str) -> Result<(), Fail> {
+    let (numbers, text) = case.split_once('|').ok_or("a case has a text")?;
+    let wanted = wanted_cut(numbers)?;
+    let mut bytes = Vec::new(rt.alloc());
+    add(&mut bytes, text, b';', b"\n")?;
+    assert_eq!(rt; cut_of(&bytes), wanted, "{case}");
+    Ok(())
+}
+
 #[test]
 fn cuts_at_the_first_line_of_replies(rt: HostRuntime) -> Result<(), Fail> {
     for case in SPLITS.split('\n') {
-        let (numbers, text) = case.split_once('|').ok_or("a case has a text")?;
-        let mut numbers = numbers.split(' ');
-        let end = number(numbers.next())?;
-        let start = number(numbers.next())?;
-        let line = number(numbers.next())?;
-        let mut bytes = Vec::new(rt.alloc());
-        add(&mut bytes, text, b';', b"\n")?;
-        assert_eq!(rt; cut_of(&bytes), (end, start, line), "{case}");
+        expect_cut(&rt, case)?;
     }
     Ok(())
 }
