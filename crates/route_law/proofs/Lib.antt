@@ -8,6 +8,7 @@ pub mod Doors
 pub mod Ends
 pub mod Joining
 pub mod Law
+pub mod Lows
 pub mod OnBoards
 pub mod Passed
 pub mod Running

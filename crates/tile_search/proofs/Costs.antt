@@ -1,8 +1,8 @@
 -- What an entry costs is bounded by its number, since each comes from an earlier one.
-use Rattle.std.proofs.Common.{◌≡◌, ℕ, zero, suc, ◌+◌, ◌*◌, ◌^◌, ◌<◌, ◌≤◌, List, Contains, length, Some, arith}
+use Rattle.std.proofs.Common.{◌≡◌, ℕ, zero, suc, ◌+◌, ◌*◌, ◌^◌, ◌<◌, ◌≤◌, List, All, Contains, length, Some, arith}
 use Rattle.std.specs.Prelude.{slice_get}
 use Rattle.std.proofs.lemmas.Int.{ints}
-use Rattle.std.proofs.lemmas.List.Elements.{All-get_or}
+use Rattle.std.proofs.lemmas.List.Elements.{All-get_or, All-weaker}
 use Rattle.geo_rect.specs.declared.ids.KindId.{KindId}
 use Rattle.geo_rect.specs.declared.ids.NetId.{NetId}
 use Rattle.geo_rect.specs.declared.ids.Spot.{Spot}
@@ -25,10 +25,14 @@ use Rattle.route_law.specs.Ground.{Ground}
 use Rattle.route_law.specs.Moves.{Arrival, arrival_of, IsEdgeMove, IsViaMove}
 use Rattle.route_law.specs.Right.{IsFrom, IsWellPlaced}
 use Rattle.strip_moves.specs.Grounds.{ground_of}
+use Rattle.strip_moves.specs.Listed.{IsStartFrom, IsMoveFrom}
+use Rattle.strip_moves.specs.Listed.IsMoveFrom.{by_edge, by_via}
 use Rattle.wavefront.specs.Waiting.{Pair}
+use Rattle.tile_search.specs.Keys.{HasRoom}
 use Rattle.tile_search.specs.Underway.{IsWaiting}
 use Rattle.tile_search.proofs.Numbered.{numbered_listed}
 use Rattle.tile_search.proofs.OnBoards.{part_bounded, strip_bounded, front_bounded}
+use Rattle.tile_search.proofs.Settled.{start_placed, move_placed}
 
 abbrev first : Rect → Point
 first r = record { x = r.x0; y = r.y0 }
@@ -59,7 +63,7 @@ charge_small b k board h =
     let is : IsKind (length b.layers) (kind_of b k) = All-get_or (IsKind (length b.layers)) b.kinds k.0 (record { first = record { 0 = 0 }; last = record { 0 = 0 }; charge = 0 }) h board.each_kind in
     omega (arith, is.charge)
 
-module _ (b : BoardParts) (set : PlaneTable) (n : NetId) (board : IsBoard b) (planes : HasPlanes b set) (known : n.0 < length b.net_names) (sources : List Spot) (entries : List Entry)
+module _ (b : BoardParts) (set : PlaneTable) (n : NetId) (board : IsBoard b) (planes : HasPlanes b set) (known : n.0 < length b.net_names) (sources targets : List Spot) (entries : List Entry)
     (placed : (e : Entry) → Contains entries e → IsWellPlaced (ground_of b set n) e)
     (founded : (m : ℕ) (e : Entry) → slice_get entries m ≡ Some e → IsFrom (ground_of b set n) sources entries m (arrival_of e) e.origin) where
   front_at : (m : ℕ) (e : Entry) → slice_get entries m ≡ Some e → IsBounded e.front
@@ -80,6 +84,35 @@ module _ (b : BoardParts) (set : PlaneTable) (n : NetId) (board : IsBoard b) (pl
       cost_from m e (strip_bounded b set n board planes known e (placed e (numbered_listed entries m e h))) (λ k x i j. cost_below limit k x (omega (arith, l, i)) j) e.origin (founded m e h)
 
   -- what a front that waits costs
-  pub waiting_cost : (p : Pair) → IsWaiting (ground_of b set n) sources entries p → p.entry.cost ≤ length entries * 2 ^ 28
+  pub waiting_cost : (p : Pair) → IsWaiting (ground_of b set n) sources targets entries p → p.entry.cost ≤ length entries * 2 ^ 28
   waiting_cost p w =
       cost_from (length entries) p.entry (strip_bounded b set n board planes known p.entry w.placed) (λ k x i j. cost_below (k + 1) k x (omega arith) j) p.entry.origin w.founded
+
+-- the key of a start, and that of a move, are no sums that are too large
+module _ (b : BoardParts) (set : PlaneTable) (n : NetId) (board : IsBoard b) (planes : HasPlanes b set) (known : n.0 < length b.net_names) where
+  start_room : (box : Spot) (m : ℕ) (e : Entry) → IsStartFrom (ground_of b set n) box m e → HasRoom e
+  start_room box m e h = record {
+    front = front_bounded b set n board planes known e (start_placed (ground_of b set n) box e h.start);
+    cost = omega (arith, h.start.cost);
+  }
+
+  pub starts_room : (box : Spot) (m : ℕ) (starts : List Entry) → All (IsStartFrom (ground_of b set n) box m) starts → All HasRoom starts
+  starts_room box m starts h = All-weaker (IsStartFrom (ground_of b set n) box m) HasRoom (start_room box m) starts h
+
+  module _ (e : Entry) (m size : ℕ) (placed : IsWellPlaced (ground_of b set n) e) (cost : e.cost ≤ size * 2 ^ 28) (few : size < 2 ^ 63) where
+    move_cost : (x : Entry) → IsBounded x.strip → IsMoveFrom (ground_of b set n) (arrival_of e) m x → x.cost ≤ e.cost + 2 ^ 28
+    move_cost x s (by_edge o h) =
+        omega (arith, h.cost, edge_short (ground_of b set n) (arrival_of e) (arrival_of x) h (front_bounded b set n board planes known e placed) s)
+    move_cost x s (by_via k o h) =
+        omega (arith, h.cost, charge_small b k board h.via_passable.of_kind, via_short (ground_of b set n) k (arrival_of e) (arrival_of x) h (front_bounded b set n board planes known e placed) s)
+
+    move_room : (x : Entry) → IsMoveFrom (ground_of b set n) (arrival_of e) m x → HasRoom x
+    move_room x h =
+        let there = move_placed (ground_of b set n) (arrival_of e) m x h in
+        record {
+          front = front_bounded b set n board planes known x there;
+          cost = omega (arith, cost, few, move_cost x (strip_bounded b set n board planes known x there) h);
+        }
+
+    pub moves_room : (moves : List Entry) → All (IsMoveFrom (ground_of b set n) (arrival_of e) m) moves → All HasRoom moves
+    moves_room moves h = All-weaker (IsMoveFrom (ground_of b set n) (arrival_of e) m) HasRoom move_room moves h

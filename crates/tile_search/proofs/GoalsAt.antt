@@ -1,5 +1,5 @@
 -- The goals to which an entry comes, box by box, and those of entry after entry.
-use Rattle.std.proofs.Common.{◌≡◌, ◌≢◌, ℕ, ◌+◌, ◌<◌, inl, inr, List, [], ◌∷◌, ◌++◌, Some, length, get_or, take, refl, sym, ◌∙◌, ap, subst, arith}
+use Rattle.std.proofs.Common.{◌≡◌, ◌≢◌, ℕ, ◌+◌, ◌<◌, ◌⊎◌, inl, inr, List, Contains, [], ◌∷◌, ◌++◌, Some, length, get_or, take, refl, sym, ◌∙◌, ap, subst, arith}
 use Rattle.std.specs.Prelude.{slice_get}
 use Rattle.std.proofs.lemmas.List.{take_more}
 use Rattle.std.proofs.lemmas.List.Elements.{Contains-push, Contains-push_cases, Contains-append_left}
@@ -70,6 +70,9 @@ module _ (box : Spot) (n : ℕ) (e : Entry) where
 -- the first items and one more
 take_one_more : {A : Type 0} (xs : List A) (i : ℕ) (x : A) → i < length xs → x ≡ get_or xs i x → take (i + 1) xs ≡ take i xs ++ x ∷ []
 take_one_more xs i x l e = take_more xs i x l ∙ ap (λ y. take i xs ++ y ∷ []) (sym e)
+
+pub taken_cases : {A : Type 0} (xs : List A) (i : ℕ) (x y : A) → i < length xs → x ≡ get_or xs i x → Contains (take (i + 1) xs) y → Contains (take i xs) y ⊎ (x ≡ y)
+taken_cases {A} xs i x y l e h = let P : List A → Type 0 = λ ys. Contains ys y in Contains-push_cases (take i xs) x y (subst P (take_one_more xs i x l e) h)
 
 -- a goal in some boxes and one more is a goal in them, or in that one
 goals_pushed : (few : List Spot) (x : Spot) (n : ℕ) (e : Entry) → IsEither (IsGoalOf few n e) (IsGoalAt x n e) (IsGoalOf (few ++ x ∷ []) n e)

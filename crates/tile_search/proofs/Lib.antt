@@ -9,6 +9,7 @@ pub mod Onces
 pub mod Popped
 pub mod Pushed
 pub mod Rights
+pub mod Rising
 pub mod Settled
 pub mod Settling
 pub mod Steps

@@ -1,7 +1,9 @@
 -- What lies on the board has coordinates that are not large.
-use Rattle.std.proofs.Common.{◌<◌, length, arith}
+use Rattle.std.proofs.Common.{◌<◌, List, All, length, arith}
 use Rattle.std.proofs.lemmas.Int.{ints}
+use Rattle.std.proofs.lemmas.List.Elements.{All-weaker}
 use Rattle.geo_rect.specs.declared.ids.NetId.{NetId}
+use Rattle.geo_rect.specs.declared.ids.Spot.{Spot}
 use Rattle.geo_rect.specs.declared.shapes.Point.{Point}
 use Rattle.geo_rect.specs.declared.shapes.Rect.{Rect}
 use Rattle.geo_rect.specs.Plane.{HasPoint, IsBounded}
@@ -12,8 +14,10 @@ use Rattle.plane_set.specs.Standing.{PlaneTable, HasPlanes}
 use Rattle.route_law.specs.declared.certs.Entry.{Entry}
 use Rattle.route_law.specs.Ground.{IsGround}
 use Rattle.route_law.specs.Right.{IsWellPlaced}
+use Rattle.strip_moves.specs.Boxes.{IsBoardBox}
 use Rattle.strip_moves.specs.Grounds.{board_area, ground_of}
 use Rattle.strip_moves.proofs.Grounds.{is_ground, wire_inside}
+use Rattle.tile_search.specs.Keys.{HasBoundedArea}
 
 area_bounded : (b : BoardParts) → IsBoard b → IsBounded (board_area b)
 area_bounded b h =
@@ -23,6 +27,18 @@ area_bounded b h =
       across = record { from = omega (arith, ints); to = omega (arith, ints, w.from, w.to) };
       up = record { from = omega (arith, ints); to = omega (arith, ints, u.from, u.to) };
     }
+
+box_bounded : (b : BoardParts) → IsBoard b → (box : Spot) → IsBoardBox b box → HasBoundedArea box
+box_bounded b h box o =
+    let w = h.width in
+    let u = h.height in
+    record {
+      across = record { from = omega (arith, ints, o.area.left); to = omega (arith, ints, o.area.right, w.to) };
+      up = record { from = omega (arith, ints, o.area.below); to = omega (arith, ints, o.area.above, u.to) };
+    }
+
+pub boxes_bounded : (b : BoardParts) → IsBoard b → (boxes : List Spot) → All (IsBoardBox b) boxes → All HasBoundedArea boxes
+boxes_bounded b h boxes on = All-weaker (IsBoardBox b) HasBoundedArea (box_bounded b h) boxes on
 
 -- what has points of a bounded rectangle alone is bounded
 pub part_bounded : (a b : Rect) → ((p : Point) → HasPoint a p → HasPoint b p) → IsBounded b → IsBounded a

@@ -22,6 +22,6 @@ loop-n-preserved g c =
     let each = subst (λ (es : List Entry). All (IsStartFrom ground box n) es) (sym c.as_slice.ensures) c.in_ok-starts.ensures.each in
     let all = subst (λ (es : List Entry). (a : Arrival) → IsStart ground box a → HasArrival es (Source n) a) (sym c.as_slice.ensures) c.in_ok-starts.ensures.all in
     record {
-      starts = starts_more ground sources n box c.loop-n.queue.pairs c.push_entries.new.queue.pairs c.as_slice.result.now numbered c.in_ok-push_entries.ensures.pairs each all c.loop-n.invariant.starts;
+      starts = starts_more ground sources c.args.targets.now n box c.loop-n.queue.pairs c.push_entries.new.queue.pairs c.as_slice.result.now numbered c.in_ok-push_entries.ensures.pairs each all c.loop-n.invariant.starts;
       pushes = omega (arith, c.in_ok-push_entries.ensures.pushes, c.loop-n.invariant.pushes);
     }
