@@ -7,6 +7,7 @@ pub mod Layers
 pub mod MadeShapes
 pub mod NameLists
 pub mod NameTables
+pub mod OwnersGap
 pub mod Squares
 pub mod StateShapes
 pub mod WellFormed

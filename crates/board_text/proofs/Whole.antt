@@ -20,9 +20,9 @@ use Rattle.board_reader.specs.Drafts as drafts
 use Rattle.board_reader.specs.Forms.{spelling}
 use Rattle.board_reader.specs.Reading.{reading}
 use Rattle.board_reader.specs.Tables.{table, is_full}
-use Rattle.board_text.specs.Spelled.{line, board_line, wire_lines, via_lines, item_lines, command_line, spelled, told_of, layer_name, class_name, net_name}
+use Rattle.board_text.specs.Spelled.{line, board_line, wire_lines, via_lines, item_lines, command_line, spelled, told_of}
 use Rattle.board_text.specs.Spelled as text
-use Rattle.board_model.specs.Lookup.{layer_at}
+use Rattle.board_model.specs.Lookup.{layer_at, layer_name, class_name, net_name}
 use Rattle.board_text.proofs.Cells.{AreGiven, all-give, given-full, table-is-list}
 use Rattle.board_text.proofs.Drafts.{with_layers, with_classes, with_rules, with_kinds, with_pads, with_blocks, with_nets, with_pins, with_commands}
 use Rattle.board_text.proofs.Fitting.{breaks-none}

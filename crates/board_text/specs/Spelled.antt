@@ -1,6 +1,6 @@
 -- The text of a board and commands: lines that end with one line feed, words with one space between them,
 -- numbers in decimal, and names as the board has them.
-use Rattle.std.specs.Prelude.{ℕ, List, [], ◌∷◌, ◌++◌, length, codes, decimal, slice_index_or}
+use Rattle.std.specs.Prelude.{ℕ, List, [], ◌∷◌, ◌++◌, length, codes, decimal}
 use Rattle.std.specs.List.{flat_map, range_with_len}
 use Rattle.std.specs.Fmt.{signed_decimal}
 use Rattle.geo_rect.specs.declared.ids.ClassId.{ClassId}
@@ -13,23 +13,11 @@ use Rattle.board_model.specs.declared.commands.Command.TheVariants.{Route, All, 
 use Rattle.board_model.specs.declared.parts.Block.{Block}
 use Rattle.board_model.specs.declared.parts.BoardParts.{BoardParts}
 use Rattle.board_model.specs.declared.parts.Pin.{Pin}
-use Rattle.board_model.specs.Lookup.{rule_of, pad_of, kind_of, class_of, layer_at}
+use Rattle.board_model.specs.Lookup.{rule_of, pad_of, kind_of, class_of, layer_at, layer_name, class_name, kind_name, net_name}
 use Rattle.board_reader.specs.declared.forms.Form.{Form}
 use Rattle.board_reader.specs.declared.forms.Form.TheVariants as form
 use Rattle.board_reader.specs.Forms.{spelling}
 use Rattle.board_reader.specs.Reading.{Told}
-
-abbrev pub layer_name : BoardParts → LayerId → List ℕ
-layer_name b l = slice_index_or b.layers l.0 []
-
-abbrev pub class_name : BoardParts → ClassId → List ℕ
-class_name b c = slice_index_or b.classes c.0 []
-
-abbrev pub kind_name : BoardParts → KindId → List ℕ
-kind_name b k = slice_index_or b.kind_names k.0 []
-
-abbrev pub net_name : BoardParts → NetId → List ℕ
-net_name b n = slice_index_or b.net_names n.0 []
 
 -- the class, the kind and the net of a number
 abbrev pub class_at : ℕ → ClassId

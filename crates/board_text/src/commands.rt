@@ -2,7 +2,8 @@ ghost use Rattle.std.specs.Prelude.{◌≡◌, ◌++◌, ◌<◌, ◌∷◌, [],
 ghost use Rattle.std.specs.List.{flat_map};
 ghost use Rattle.board_model.specs.Commands.{IsCommandOf};
 ghost use Rattle.board_reader.specs.declared.forms.Form.TheVariants as form;
-ghost use Rattle.board_text.specs.Spelled.{line, spaced, command_line, net_name, layer_name, class_name};
+ghost use Rattle.board_model.specs.Lookup.{net_name, layer_name, class_name};
+ghost use Rattle.board_text.specs.Spelled.{line, spaced, command_line};
 
 use crate::words::push_word;
 use board_model::{Board, Command};

@@ -4,8 +4,8 @@ ghost use Rattle.geo_rect.specs.Plane.{IsBounded};
 ghost use Rattle.route_law.specs.Moves.{arrival_of};
 ghost use Rattle.cert_check.specs.Fronts.{IsMoved, ComesBefore, IsFarFrom};
 
-use crate::rects::{is_clamped, same_rect};
-use geo_rect::{Rect, Spot, dist, reach};
+use crate::rects::is_clamped;
+use geo_rect::{Rect, Spot, dist, reach, same_rect};
 use route_law::Entry;
 
 /// Whether `new` is `more` above `old`.

@@ -13,9 +13,9 @@ ghost use Rattle.cert_check.specs.Stages.{ArePlaced};
 
 use crate::fronts::is_moved;
 use crate::passages::via_passage;
-use crate::rects::{corner, is_meet, meet_of_three, same_rect};
+use crate::rects::{corner, is_meet, meet_of_three};
 use board_model::{Board, ViaKind};
-use geo_rect::{KindId, LayerId, NetId, Spot, edge};
+use geo_rect::{KindId, LayerId, NetId, Spot, edge, same_rect};
 use plane_core::Plane;
 use plane_set::PlaneSet;
 use route_law::{Entry, Origin};

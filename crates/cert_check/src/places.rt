@@ -5,9 +5,9 @@ ghost use Rattle.route_law.specs.Right.{IsWellPlaced};
 ghost use Rattle.strip_moves.specs.Grounds.{ground_of};
 
 use crate::passages::wire_passage;
-use crate::rects::{corner, lies_in, same_rect};
+use crate::rects::{corner, lies_in};
 use board_model::Board;
-use geo_rect::NetId;
+use geo_rect::{NetId, same_rect};
 use plane_core::Plane;
 use plane_set::PlaneSet;
 use route_law::Entry;

@@ -1,22 +1,12 @@
 //! Questions about rectangles whose answers are tests.
-ghost use Rattle.std.specs.Prelude.{◌≡◌, ◌↔◌, IsTrue, IfSome, IfNone};
+ghost use Rattle.std.specs.Prelude.{◌↔◌, IsTrue, IfSome, IfNone};
 ghost use Rattle.geo_rect.specs.declared.shapes.Rect.{Rect as Area};
 ghost use Rattle.geo_rect.specs.Axis.{HasNumber, LiesWithin};
 ghost use Rattle.geo_rect.specs.Images.{IsClamped};
 ghost use Rattle.geo_rect.specs.Plane.{HasPoint, LiesIn, IsMeet};
 ghost use Rattle.route_law.specs.Moves.{IsMeetOfThree};
 
-use geo_rect::{Interval, Point, Rect, clamp, meet};
-
-/// Whether both have the same numbers.
-fn same_interval(a: Interval, b: Interval) -> bool
-    ensures { IsTrue result ↔ (a ≡ b) }
-{
-    if a.low != b.low {
-        return false;
-    }
-    a.high == b.high
-}
+use geo_rect::{Interval, Point, Rect, clamp, meet, same_rect};
 
 /// Whether every number of `a` is one of `b`.
 fn lies_within(a: Interval, b: Interval) -> bool
@@ -26,16 +16,6 @@ fn lies_within(a: Interval, b: Interval) -> bool
         return false;
     }
     a.high <= b.high
-}
-
-/// Whether both are the same rectangle.
-pub fn same_rect(a: Rect, b: Rect) -> bool
-    ensures { IsTrue result ↔ (a ≡ b) }
-{
-    if !same_interval(a.columns(), b.columns()) {
-        return false;
-    }
-    same_interval(a.rows(), b.rows())
 }
 
 /// Whether each point of `a` is one of `b`.

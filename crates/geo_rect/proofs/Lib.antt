@@ -1,5 +1,6 @@
 pub mod Bands
 pub mod Clamps
+pub mod Closeness
 pub mod Distances
 pub mod Lifts
 pub mod Nearest

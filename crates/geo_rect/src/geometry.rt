@@ -9,7 +9,7 @@ ghost use Rattle.geo_rect.specs.Images.{IsClamped};
 ghost use Rattle.geo_rect.specs.Edges.{IsEdge, HasNoEdge, right_band, left_band, upper_band, lower_band};
 
 use crate::axes::{farthest, gap_between, images, just, near, overlap, widened};
-use crate::shapes::Rect;
+use crate::shapes::{Interval, Rect};
 
 /// The common points of `a` and `b`; `None` where there are none.
 pub fn meet(a: Rect, b: Rect) -> Option<Rect>
@@ -19,6 +19,26 @@ pub fn meet(a: Rect, b: Rect) -> Option<Rect>
     let across = overlap(a.columns(), b.columns())?;
     let up = overlap(a.rows(), b.rows())?;
     Some(Rect::of(across, up))
+}
+
+/// Whether both have the same numbers.
+fn same_interval(a: Interval, b: Interval) -> bool
+    ensures { IsTrue result ↔ (a ≡ b) }
+{
+    if a.low != b.low {
+        return false;
+    }
+    a.high == b.high
+}
+
+/// Whether both are the same rectangle.
+pub fn same_rect(a: Rect, b: Rect) -> bool
+    ensures { IsTrue result ↔ (a ≡ b) }
+{
+    if !same_interval(a.columns(), b.columns()) {
+        return false;
+    }
+    same_interval(a.rows(), b.rows())
 }
 
 /// The points that are too close to `b` for the gap `g`, which is from 1 to 2^25. The coordinates

@@ -14,7 +14,7 @@ mod memory;
 mod shapes;
 
 pub use decided::tests_are_exact;
-pub use geometry::{clamp, dist, edge, grown, meet, reach, too_close};
+pub use geometry::{clamp, dist, edge, grown, meet, reach, same_rect, too_close};
 pub use geometry_laws::{
     a_far_detour_is_long, a_step_changes_the_distance_by_one, clamping_gives_the_nearest,
     clamping_loses_nothing, distance_is_a_distance, distance_obeys_the_triangle,

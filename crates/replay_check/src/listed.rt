@@ -5,7 +5,7 @@ ghost use Rattle.route_law.specs.Steps.{items_from};
 ghost use Rattle.replay_check.specs.Items.{item_at};
 
 use board_model::{Conn, Leg, Owned, Violation};
-use geo_rect::{Interval, Rect};
+use geo_rect::{Rect, same_rect};
 use plane_core::Strip;
 use route_law::Item;
 
@@ -16,22 +16,9 @@ pub trait Same {
         ensures { IsTrue result ↔ (self.now ≡ other.now) };
 }
 
-/// Whether both have the same numbers.
-fn is_same_interval(a: Interval, b: Interval) -> bool
-    ensures { IsTrue result ↔ (a ≡ b) }
-{
-    if a.low != b.low {
-        return false;
-    }
-    a.high == b.high
-}
-
 impl Same for Rect {
     fn is_same(&self, other: &Rect) -> bool {
-        if !is_same_interval(self.columns(), other.columns()) {
-            return false;
-        }
-        is_same_interval(self.rows(), other.rows())
+        same_rect(*self, *other)
     }
 }
 

@@ -20,7 +20,7 @@ use Rattle.route_law.specs.declared.certs.Entry.{Entry}
 use Rattle.route_law.specs.declared.certs.Origin.{Origin}
 use Rattle.route_law.specs.declared.certs.Origin.TheVariants as origin
 use Rattle.route_law.specs.Regular.{IsFromZero, IsRegularNode, IsRegularOrigin, IsRegularLabel}
-use Rattle.reply_text.specs.Texts.{layer_name}
+use Rattle.board_model.specs.Lookup.{layer_name}
 use Rattle.reply_reader.specs.declared.heads.CertHead.{CertHead}
 use Rattle.reply_reader.specs.declared.heads.ConnHead.{ConnHead}
 use Rattle.reply_reader.specs.declared.heads.Head.{Head}

@@ -6,7 +6,7 @@ use Rattle.geo_rect.specs.declared.ids.Node.{Node}
 use Rattle.geo_rect.specs.declared.shapes.Rect.{Rect}
 use Rattle.board_model.specs.declared.parts.BoardParts.{BoardParts}
 use Rattle.route_law.specs.Regular.{IsLayerOf}
-use Rattle.reply_text.specs.Texts.{layer_name}
+use Rattle.board_model.specs.Lookup.{layer_name}
 use Rattle.reply_reader.specs.Forms.{word}
 use Rattle.reply_reader.specs.InRange.{IsCoordinate}
 

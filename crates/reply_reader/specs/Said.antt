@@ -21,7 +21,8 @@ use Rattle.route_law.specs.declared.certs.Origin.{Origin}
 use Rattle.route_law.specs.declared.certs.Origin.TheVariants as origin
 use Rattle.route_law.specs.Regular.{IsLayerOf, IsKindOf, IsNetOf, IsRegularNode, IsRegularLeg, IsRegularEntry, IsRegularViolation, IsRegularStrip}
 use Rattle.route_law.specs.Routing.{conns_needed}
-use Rattle.reply_text.specs.Texts.{layer_name, class_name, kind_name, net_name, conn_line, at_line, leg_text, bound_text, cert_line, entry_text, none_line, route_line, all_line, rip_line, show_line, rules_line, violation_text, strips_line, strip_text}
+use Rattle.board_model.specs.Lookup.{layer_name, class_name, kind_name, net_name}
+use Rattle.reply_text.specs.Texts.{conn_line, at_line, leg_text, bound_text, cert_line, entry_text, none_line, route_line, all_line, rip_line, show_line, rules_line, violation_text, strips_line, strip_text}
 use Rattle.reply_reader.specs.declared.heads.CertHead.{CertHead}
 use Rattle.reply_reader.specs.declared.heads.ConnHead.{ConnHead}
 use Rattle.reply_reader.specs.declared.heads.Head.{Head}

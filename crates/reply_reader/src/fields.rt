@@ -8,7 +8,7 @@ ghost use Rattle.geo_rect.specs.declared.ids.NetId.{NetId};
 ghost use Rattle.geo_rect.specs.declared.ids.Node.{Node};
 ghost use Rattle.geo_rect.specs.declared.shapes.Rect.{Rect};
 ghost use Rattle.route_law.specs.Regular.{IsLayerOf, IsKindOf, IsNetOf};
-ghost use Rattle.reply_text.specs.Texts.{layer_name, class_name, kind_name, net_name};
+ghost use Rattle.board_model.specs.Lookup.{layer_name, class_name, kind_name, net_name};
 ghost use Rattle.reply_reader.specs.Fields.{IsForm, IsClassOf, IsCoordinateAt, IsAreaAt, IsNodeAt};
 ghost use Rattle.reply_reader.specs.Forms.{word};
 

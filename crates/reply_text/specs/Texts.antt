@@ -1,6 +1,6 @@
 -- The text of replies: lines that end with one line feed, words with one space between them, numbers in
 -- decimal, and names as the board has them.
-use Rattle.std.specs.Prelude.{ℕ, [], ◌++◌, List, length, Bool, true, false, Option, Some, None, codes, decimal, slice_index_or}
+use Rattle.std.specs.Prelude.{ℕ, [], ◌++◌, List, length, Bool, true, false, Option, Some, None, codes, decimal}
 use Rattle.std.specs.List.{flat_map}
 use Rattle.std.specs.Fmt.{signed_decimal}
 use Rattle.geo_rect.specs.declared.ids.ClassId.{ClassId}
@@ -18,6 +18,7 @@ use Rattle.board_model.specs.declared.parts.BoardParts.{BoardParts}
 use Rattle.board_model.specs.declared.shapes.Owned.{Owned}
 use Rattle.board_model.specs.declared.shapes.Violation.{Violation}
 use Rattle.board_model.specs.declared.shapes.Violation.TheVariants.{Close, Outline}
+use Rattle.board_model.specs.Lookup.{layer_name, class_name, kind_name, net_name}
 use Rattle.plane_core.specs.declared.strips.Strip.{Strip}
 use Rattle.route_law.specs.declared.certs.Cert.{Cert}
 use Rattle.route_law.specs.declared.certs.Entry.{Entry}
@@ -29,18 +30,6 @@ use Rattle.route_law.specs.declared.replies.Made1.{Made1}
 use Rattle.route_law.specs.declared.replies.Reply.{Reply}
 use Rattle.route_law.specs.declared.replies.Reply.TheVariants as reply
 use Rattle.route_law.specs.declared.replies.Routed.{Routed}
-
-abbrev pub layer_name : BoardParts → LayerId → List ℕ
-layer_name b l = slice_index_or b.layers l.0 []
-
-abbrev pub class_name : BoardParts → ClassId → List ℕ
-class_name b c = slice_index_or b.classes c.0 []
-
-abbrev pub kind_name : BoardParts → KindId → List ℕ
-kind_name b k = slice_index_or b.kind_names k.0 []
-
-abbrev pub net_name : BoardParts → NetId → List ℕ
-net_name b n = slice_index_or b.net_names n.0 []
 
 -- the four numbers of a rectangle, each behind a space
 unfoldable pub area_text : Rect → List ℕ

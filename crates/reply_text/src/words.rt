@@ -1,6 +1,7 @@
 ghost use Rattle.std.specs.Prelude.{◌≡◌, ◌++◌, ◌<◌, [], length, OnOk, codes, decimal};
 ghost use Rattle.std.specs.Fmt.{signed_decimal};
-ghost use Rattle.reply_text.specs.Texts.{area_text, node_text, layer_name};
+ghost use Rattle.board_model.specs.Lookup.{layer_name};
+ghost use Rattle.reply_text.specs.Texts.{area_text, node_text};
 ghost use Rattle.route_law.specs.Regular.{IsRegularNode};
 
 use board_model::Board;

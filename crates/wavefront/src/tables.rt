@@ -6,7 +6,7 @@ ghost use Rattle.route_law.specs.Covers.{IsReachedBefore};
 ghost use Rattle.wavefront.specs.Chains.{corner};
 ghost use Rattle.wavefront.specs.Reached.{ComesBefore, IsInTime};
 
-use geo_rect::{LayerId, NoMemory, Rect, reach};
+use geo_rect::{LayerId, NoMemory, Rect, reach, same_rect};
 use route_law::Entry;
 use std::alloc::Global;
 use std::collections::BTreeMap;
@@ -115,17 +115,10 @@ fn comes_before(e: Entry, layer: LayerId, strip: Rect, front: Rect, cost: u128) 
     if e.layer.0 != layer.0 {
         return false;
     }
-    if !is_same(e.strip, strip) {
+    if !same_rect(e.strip, strip) {
         return false;
     }
     is_in_time(e.front, e.cost, front, cost)
-}
-
-/// Whether the rectangles have the same corners.
-fn is_same(a: Rect, b: Rect) -> bool
-    ensures { IsTrue result ↔ (a ≡ b) }
-{
-    a == b
 }
 
 /// Whether one comes from `from`, reached for `paid`, to each point of `front` for at most `cost`.
