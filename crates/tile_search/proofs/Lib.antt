@@ -4,7 +4,6 @@ pub mod Costs
 pub mod GoalsAt
 pub mod Lows
 pub mod Numbered
-pub mod OnBoards
 pub mod Onces
 pub mod Popped
 pub mod Pushed

@@ -7,7 +7,7 @@ use Rattle.geo_rect.specs.declared.shapes.Rect.{Rect}
 use Rattle.geo_rect.specs.Distance.{IsDistance}
 use Rattle.geo_rect.proofs.Distances.{distance_one}
 use Rattle.route_law.specs.Covers.{IsLow}
-use Rattle.tile_search.proofs.GoalsAt.{taken_cases}
+use Rattle.route_law.proofs.Numbered.{taken_cases}
 
 -- n is the distance from the front to some target box, and at most that to each of a few
 pub record IsLowSoFar (targets few : List Spot) (front : Rect) (n : ℕ) : Type 0 where

@@ -9,9 +9,10 @@ use Rattle.plane_core.proofs.Members.{has_none}
 use Rattle.route_law.specs.declared.certs.Entry.{Entry}
 use Rattle.route_law.specs.Covers.{IsLow, IsReachedBefore}
 use Rattle.route_law.specs.Moves.{arrival_of}
+use Rattle.route_law.proofs.Numbered.{numbered_listed}
 use Rattle.tile_search.specs.Keys.{IsKey, IsGoalOrdered}
 use Rattle.tile_search.specs.Once.{IsSameFront, AreSettledOnce}
-use Rattle.tile_search.proofs.Numbered.{numbered_cases, numbered_listed}
+use Rattle.tile_search.proofs.Numbered.{numbered_cases}
 use Rattle.tile_search.proofs.Rising.{last_key}
 use Rattle.tile_search.proofs.Settled.{itself}
 

@@ -14,13 +14,13 @@ use Rattle.route_law.specs.Moves.{Arrival, arrival_of}
 use Rattle.route_law.specs.Right.{IsEnd, IsLeastEnd, HasNoEnd, IsBoundOf, IsRight}
 use Rattle.route_law.proofs.Doors.{find_meet}
 use Rattle.wavefront.specs.Waiting.{Pair}
+use Rattle.route_law.proofs.Numbered.{numbered_listed, listed_numbered}
 use Rattle.tile_search.specs.declared.goals.Goal.{Goal}
 use Rattle.tile_search.specs.declared.searches.Search.{Search}
 use Rattle.tile_search.specs.Goals.{IsGoalAmong, IsCheapest, IsLeastGoal}
 use Rattle.tile_search.specs.Keys.{IsKey}
 use Rattle.tile_search.specs.Underway.{IsWaiting, IsMet, IsUnderway, bound_of, cert_of}
 use Rattle.tile_search.specs.Waits.{IsLate, IsNeedless, AreNeedless}
-use Rattle.tile_search.proofs.Numbered.{numbered_listed, listed_numbered}
 
 module _ (targets : List Spot) (entries : List Entry) where
   -- a node of a target box in the strip of an entry is a goal

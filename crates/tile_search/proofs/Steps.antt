@@ -16,6 +16,8 @@ use Rattle.route_law.specs.Moves.{Arrival, arrival_of, IsEdgeMove, IsViaMove}
 use Rattle.route_law.specs.Right.{IsStart, IsWellPlaced, IsFrom}
 use Rattle.strip_moves.specs.Grounds.{ground_of}
 use Rattle.wavefront.specs.Waiting.{Pair, Waiting}
+use Rattle.strip_moves.proofs.Bounded.{front_bounded}
+use Rattle.route_law.proofs.Numbered.{listed_numbered, numbered_listed}
 use Rattle.tile_search.specs.declared.searches.Search.{Search}
 use Rattle.tile_search.specs.Goals.{IsLeastGoal, IsGoalAmong}
 use Rattle.tile_search.specs.Keys.{IsGoalOrdered, IsOrderedToBest}
@@ -23,8 +25,7 @@ use Rattle.tile_search.specs.Once.{AreSettledOnce}
 use Rattle.tile_search.specs.Underway.{IsWaiting, IsMet, IsUnderway, IsSettled}
 use Rattle.tile_search.specs.Waits.{HasStarts, HasBoundedFront, IsNext}
 use Rattle.tile_search.proofs.Costs.{waiting_cost}
-use Rattle.tile_search.proofs.Numbered.{one_more, listed_numbered, numbered_listed}
-use Rattle.tile_search.proofs.OnBoards.{front_bounded}
+use Rattle.tile_search.proofs.Numbered.{one_more}
 use Rattle.tile_search.proofs.Onces.{none_once, settled_once_more}
 use Rattle.tile_search.proofs.Rising.{later_more, best_ordered}
 use Rattle.tile_search.proofs.Settled.{start_waiting, waiting_more, founded_more, met_more}

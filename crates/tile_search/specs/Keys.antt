@@ -21,10 +21,6 @@ abbrev pub IsOrderedToBest : List Spot → List Entry → Option Goal → Type 0
 IsOrderedToBest targets entries None = ⊤
 IsOrderedToBest targets entries (Some goal) = IsGoalOrdered targets entries goal.cost
 
--- the coordinates of the box lie between -2^25 and 2^25
-abbrev pub HasBoundedArea : Spot → Type 0
-HasBoundedArea box = IsBounded box.area
-
 -- the coordinates of the entry's front lie between -2^25 and 2^25, and its cost leaves room for one more way
 pub record HasRoom (e : Entry) : Type 0 where
   pub front : IsBounded e.front

@@ -2,7 +2,8 @@
 ghost use Rattle.std.specs.Prelude.{◌^◌, ◌<◌, ◌≤◌, length, All};
 ghost use Rattle.geo_rect.specs.Plane.{IsBounded};
 ghost use Rattle.route_law.specs.Covers.{IsLow};
-ghost use Rattle.tile_search.specs.Keys.{HasBoundedArea, HasRoom, IsKey};
+ghost use Rattle.strip_moves.specs.Boxes.{HasBoundedArea};
+ghost use Rattle.tile_search.specs.Keys.{HasRoom, IsKey};
 
 use geo_rect::{Rect, Spot, dist};
 use route_law::Entry;

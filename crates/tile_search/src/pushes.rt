@@ -2,8 +2,8 @@
 ghost use Rattle.std.specs.Prelude.{◌≡◌, ◌+◌, ◌^◌, ◌<◌, ◌≤◌, [], length, All, OnOk};
 ghost use Rattle.plane_set.specs.Standing.{HasPlanes};
 ghost use Rattle.strip_moves.specs.Grounds.{ground_of};
-ghost use Rattle.strip_moves.specs.Boxes.{IsBoardBox};
-ghost use Rattle.tile_search.specs.Keys.{HasBoundedArea, HasRoom};
+ghost use Rattle.strip_moves.specs.Boxes.{IsBoardBox, HasBoundedArea};
+ghost use Rattle.tile_search.specs.Keys.{HasRoom};
 ghost use Rattle.tile_search.specs.Waits.{IsPushed, HasStarts};
 
 use crate::keys::key_of;

@@ -3,9 +3,9 @@ use Rattle.std.proofs.lemmas.Result.{IfOk-weaker}
 use Rattle.route_law.specs.Ground.{Ground}
 use Rattle.route_law.specs.Walks.{HasNoJoiningWalk}
 use Rattle.strip_moves.specs.Grounds.{ground_of}
+use Rattle.strip_moves.proofs.Bounded.{the_ground}
 use Rattle.tile_search.specs.Answers.{IsAnswerOf, HasRightPath, HasPathEnd, HasLeastCost, HasRightRefusal, HasEachFrontOnce, HasGoalOrder, IsNoRoute}
 use Rattle.tile_search.proofs.Answering.{right_path, path_end, least_cost, right_refusal, none_exactly, each_once, goal_order}
-use Rattle.tile_search.proofs.OnBoards.{the_ground}
 use Rattle.tile_search.proofs.answers.search.Goals as goal
 
 pub returns-clause-path : goal.returns-clause-path

@@ -6,10 +6,10 @@ use Rattle.route_law.specs.Ground.{Ground}
 use Rattle.route_law.specs.Moves.{Arrival, arrival_of, IsEdgeMove, IsViaMove}
 use Rattle.strip_moves.specs.Grounds.{ground_of}
 use Rattle.strip_moves.specs.Listed.{HasArrival, IsMoveFrom}
+use Rattle.strip_moves.proofs.Bounded.{boxes_bounded, strip_bounded, front_bounded}
 use Rattle.tile_search.specs.declared.searches.Search.{Search}
 use Rattle.tile_search.specs.Keys.{HasRoom}
 use Rattle.tile_search.proofs.Costs.{moves_room}
-use Rattle.tile_search.proofs.OnBoards.{boxes_bounded, strip_bounded, front_bounded}
 use Rattle.tile_search.proofs.Settling.{HasAllMoves, settled_by}
 use Rattle.tile_search.proofs.searches.Search.settle.Goals as goal
 
