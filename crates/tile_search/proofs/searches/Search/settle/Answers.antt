@@ -8,7 +8,6 @@ use Rattle.strip_moves.specs.Grounds.{ground_of}
 use Rattle.strip_moves.specs.Listed.{HasArrival, IsMoveFrom}
 use Rattle.strip_moves.proofs.Bounded.{boxes_bounded, strip_bounded, front_bounded}
 use Rattle.tile_search.specs.declared.searches.Search.{Search}
-use Rattle.tile_search.specs.Keys.{HasRoom}
 use Rattle.tile_search.proofs.Costs.{moves_room}
 use Rattle.tile_search.proofs.Settling.{HasAllMoves, settled_by}
 use Rattle.tile_search.proofs.searches.Search.settle.Goals as goal
@@ -30,8 +29,9 @@ push_entries-requires-clause-room g c =
     let number = length c.entries.result.now in
     let same : number ≡ length c.args.self.now.table = ap (λ (es : List Entry). length es) c.entries.ensures.entries in
     let few : length c.args.self.now.table < 2 ^ 63 = omega (arith, same) in
-    subst (λ (es : List Entry). All HasRoom es) (sym c.as_slice.ensures)
-    (moves_room c.args.board.now.parts c.args.planes.now c.args.net c.args.board.now.kept c.requires.planes c.requires.net c.args.e number (length c.args.self.now.table) c.requires.placed c.requires.cost few c.moves.result c.in_ok-moves.ensures.each)
+    let ground : Ground = ground_of c.args.board.now.parts c.args.planes.now c.args.net in
+    let each = subst (λ (es : List Entry). All (IsMoveFrom ground (arrival_of c.args.e) number) es) (sym c.as_slice.ensures) c.in_ok-moves.ensures.each in
+    moves_room c.args.board.now.parts c.args.planes.now c.args.net c.args.board.now.kept c.requires.planes c.requires.net c.args.e number (length c.args.self.now.table) c.requires.placed c.requires.cost few c.as_slice.result.now each
 
 pub returns : goal.returns
 returns g c =
