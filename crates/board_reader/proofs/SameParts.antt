@@ -1,8 +1,9 @@
 -- The lists of a board, put together, are those of the draft.
-use Rattle.std.proofs.Common.{◌≡◌, ℤ, pos, List, length, ap}
+use Rattle.std.proofs.Common.{◌≡◌, ℤ, pos, List, length}
 use Rattle.board_model.specs.declared.parts.BoardParts.{BoardParts}
 use Rattle.board_reader.specs.declared.drafts.Draft.{Draft}
 use Rattle.board_reader.specs.declared.finishing.NameLists.{NameLists}
+use Rattle.board_model.specs.declared.commands.Command.{Command}
 use Rattle.board_model.specs.declared.parts.Rule.{Rule}
 use Rattle.board_reader.specs.Tables.{table}
 use Rattle.board_reader.specs.Drafts.{parts_of, names_of_draft}
@@ -31,8 +32,8 @@ pub same-parts : (d : Draft) (w h : ℤ) (n : NameLists) (rules : List Rule) (pa
 unfolding parts_of
 same-parts d w h n rules pads ew eh en er ep = λ i. put_together d (ew i) (eh i) (en i) (er i) (ep i)
 
-abbrev pub with_commands : BoardParts → Draft → Told
-with_commands p d = record { parts = p; commands = d.commands }
+abbrev pub together : BoardParts → List Command → Told
+together p commands = record { parts = p; commands = commands }
 
-pub same-told : (d : Draft) (p : BoardParts) → p ≡ parts_of d → with_commands p d ≡ told d
-same-told d p e = ap (λ q. with_commands q d) e
+pub same-told : (d : Draft) (p : BoardParts) (commands : List Command) → p ≡ parts_of d → commands ≡ d.commands → together p commands ≡ told d
+same-told d p commands e f = λ i. together (e i) (f i)

@@ -12,7 +12,7 @@ use crate::forms::Stage;
 use crate::inputs::Input;
 use crate::refusals::{ReadInput, Refusal, RefusalKind};
 use crate::tables::lay_out;
-use board_model::{Board, BoardParts, Rule};
+use board_model::{Board, BoardParts, Command, Rule};
 use geo_rect::{List, NoMemory, Text};
 use std::alloc::Global;
 
@@ -23,6 +23,21 @@ pub struct NameLists {
     classes: List<Text>,
     kinds: List<Text>,
     nets: List<Text>,
+}
+
+/// All names of a draft and its tables, as lists.
+#[derive(Drop)]
+pub struct Laid {
+    names: NameLists,
+    rules: List<Rule>,
+    pads: List<i32>,
+}
+
+/// The lists of a board, which are not tried yet, and the commands.
+#[derive(Drop)]
+pub struct Said {
+    parts: BoardParts,
+    commands: List<Command>,
 }
 
 /// A length in micrometres as the board holds it.
@@ -71,36 +86,66 @@ impl Draft {
         lay_out(alloc, self.pads.as_slice(), kinds, classes)
     }
 
+    /// The names and the tables.
+    fn laid_out(&self, alloc: Global) -> Result<Laid, NoMemory>
+        requires draft { IsDraft self.now }
+        ensures names { IfOk result (λ l. l.names ≡ names_of_draft self.now) }
+        ensures rules { IfOk result (λ l. l.rules ≡ table self.now.rules (length self.now.layers) (length self.now.classes)) }
+        ensures pads { IfOk result (λ l. l.pads ≡ table self.now.pads (length self.now.kind_names) (length self.now.classes)) }
+    {
+        let names = self.names(alloc)?;
+        let rules = self.rule_table(alloc)?;
+        let pads = self.pad_table(alloc)?;
+        Ok(Laid { names, rules, pads })
+    }
+
+    /// The lists of the board, with the names and the tables, and the commands.
+    fn say(self, laid: Laid) -> Said
+        requires draft { IsDraft self }
+        requires ended { self.stage ≡ Commands }
+        requires names { laid.names ≡ names_of_draft self }
+        requires rules { laid.rules ≡ table self.rules (length self.layers) (length self.classes) }
+        requires pads { laid.pads ≡ table self.pads (length self.kind_names) (length self.classes) }
+        ensures parts { result.parts ≡ parts_of self }
+        ensures commands { result.commands ≡ self.commands }
+    {
+        let heading = self.heading;
+        let names = laid.names;
+        let width = signed(heading.width);
+        let height = signed(heading.height);
+        let parts = BoardParts {
+            name: heading.name,
+            width,
+            height,
+            layers: names.layers,
+            classes: names.classes,
+            rules: laid.rules,
+            kind_names: names.kinds,
+            kinds: self.kinds,
+            pads: laid.pads,
+            blocks: self.blocks,
+            net_names: names.nets,
+            net_classes: self.net_classes,
+            pins: self.pins,
+        };
+        Said {
+            parts,
+            commands: self.commands,
+        }
+    }
+
     /// The board and the commands of a whole text.
     fn finish(self, alloc: Global) -> Result<Input, NoMemory>
         requires draft { IsDraft self }
         requires ended { self.stage ≡ Commands }
         ensures { IfOk result (λ i. told_by i ≡ told self) }
     {
-        let names = self.names(alloc)?;
-        let rules = self.rule_table(alloc)?;
-        let pads = self.pad_table(alloc)?;
-        let width = signed(self.heading.width);
-        let height = signed(self.heading.height);
-        let parts = BoardParts {
-            name: self.heading.name,
-            width,
-            height,
-            layers: names.layers,
-            classes: names.classes,
-            rules,
-            kind_names: names.kinds,
-            kinds: self.kinds,
-            pads,
-            blocks: self.blocks,
-            net_names: names.nets,
-            net_classes: self.net_classes,
-            pins: self.pins,
-        };
-        let board = Board::build(alloc, parts)?;
+        let laid = self.laid_out(alloc)?;
+        let said = self.say(laid);
+        let board = Board::build(alloc, said.parts)?;
         Ok(Input {
             board,
-            commands: self.commands,
+            commands: said.commands,
         })
     }
 

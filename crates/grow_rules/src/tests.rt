@@ -3,43 +3,48 @@ ghost use Rattle.board_model.specs.Known.{IsKnown, IsNearOrigin};
 
 use crate::{frame, via_grow, wire_grow};
 use board_model::{Board, BoardParts, Rule, Shape, ViaKind};
-use geo_rect::{ClassId, KindId, LayerId, List, NetId, NoMemory, Rect, Text};
+use geo_rect::{ClassId, KindId, LayerId, NetId, NoMemory, Rect, Text};
 use std::alloc::Global;
 use std::process::Abort;
 use std::test::Fail;
 
-fn names(alloc: Global, texts: &[&str]) -> Result<List<Text>, NoMemory> {
-    let mut list = List::new(alloc);
-    for text in texts {
-        list.push(Text::from_str(alloc, text)?)?;
+fn add_layers(alloc: Global, parts: &mut BoardParts) -> Result<(), NoMemory> {
+    parts.layers.push(Text::from_str(alloc, "top")?)?;
+    parts.layers.push(Text::from_str(alloc, "low")?)?;
+    parts.classes.push(Text::from_str(alloc, "thin")?)?;
+    parts.classes.push(Text::from_str(alloc, "wide")?)?;
+    for (half, gap) in [(1, 2), (3, 5), (2, 4), (4, 3)] {
+        parts.rules.push(Rule { half, gap })?;
     }
-    Ok(list)
+    Ok(())
+}
+
+fn add_kind(alloc: Global, parts: &mut BoardParts) -> Result<(), NoMemory> {
+    parts.kind_names.push(Text::from_str(alloc, "hole")?)?;
+    parts.kinds.push(ViaKind {
+        first: LayerId(0),
+        last: LayerId(1),
+        charge: 10,
+    })?;
+    parts.pads.push(6)?;
+    parts.pads.push(8)
+}
+
+fn fill(alloc: Global, parts: &mut BoardParts) -> Result<(), NoMemory> {
+    add_layers(alloc, parts)?;
+    add_kind(alloc, parts)?;
+    parts.net_names.push(Text::from_str(alloc, "a")?)?;
+    parts.net_names.push(Text::from_str(alloc, "b")?)?;
+    parts.net_classes.push(ClassId(0))?;
+    parts.net_classes.push(ClassId(1))
 }
 
 // Two layers, two classes with different rules on each, a kind of via over both layers, and a net of
 // each class.
 fn parts_of(alloc: Global, width: i32, height: i32) -> Result<BoardParts, NoMemory> {
-    let rules = [(1, 2), (3, 5), (2, 4), (4, 3)].map(|(half, gap)| Rule { half, gap });
-    let kind = ViaKind {
-        first: LayerId(0),
-        last: LayerId(1),
-        charge: 10,
-    };
-    Ok(BoardParts {
-        name: Text::from_str(alloc, "board")?,
-        width,
-        height,
-        layers: names(alloc, &["top", "low"])?,
-        classes: names(alloc, &["thin", "wide"])?,
-        rules: List::from_slice(alloc, &rules)?,
-        kind_names: names(alloc, &["hole"])?,
-        kinds: List::from_slice(alloc, &[kind])?,
-        pads: List::from_slice(alloc, &[6, 8])?,
-        blocks: List::new(alloc),
-        net_names: names(alloc, &["a", "b"])?,
-        net_classes: List::from_slice(alloc, &[ClassId(0), ClassId(1)])?,
-        pins: List::new(alloc),
-    })
+    let mut parts = BoardParts::new(alloc, "board", width, height)?;
+    fill(alloc, &mut parts)?;
+    Ok(parts)
 }
 
 fn board_of(rt: &impl Abort, alloc: Global, width: i32, height: i32) -> Result<Board, NoMemory> {

@@ -7,21 +7,13 @@ ghost use Rattle.plane_set.specs.Standing.{HasPlanes};
 use crate::PlaneSet;
 use board_model::{Block, Board, BoardParts, Made, Pin, Rule, Shape, ViaKind, all_shapes};
 use flat_plane::FlatPlane;
-use geo_rect::{ClassId, KindId, Label, LayerId, List, NetId, NoMemory, Node, Point, Rect, Text};
+use geo_rect::{ClassId, KindId, Label, LayerId, NetId, NoMemory, Node, Point, Rect, Text};
 use plane_core::{Plane, Strips};
 use std::alloc::Global;
 use std::process::Abort;
 use std::test::Fail;
 
 const ONE: Label = Label::One(NetId(0));
-
-fn names(alloc: Global, texts: &[&str]) -> Result<List<Text>, NoMemory> {
-    let mut list = List::new(alloc);
-    for text in texts {
-        list.push(Text::from_str(alloc, text)?)?;
-    }
-    Ok(list)
-}
 
 /// A kind of via from the first layer to the second.
 fn kind() -> ViaKind {
@@ -32,6 +24,36 @@ fn kind() -> ViaKind {
     }
 }
 
+/// Two layers, one kind of via over both, one class and one net.
+fn add_layers(alloc: Global, parts: &mut BoardParts) -> Result<(), NoMemory> {
+    parts.layers.push(Text::from_str(alloc, "top")?)?;
+    parts.layers.push(Text::from_str(alloc, "bottom")?)?;
+    parts.classes.push(Text::from_str(alloc, "thin")?)?;
+    parts.rules.push(Rule { half: 1, gap: 2 })?;
+    parts.rules.push(Rule { half: 1, gap: 2 })?;
+    parts.kind_names.push(Text::from_str(alloc, "hole")?)?;
+    parts.kinds.push(kind())?;
+    parts.pads.push(2)?;
+    parts.net_names.push(Text::from_str(alloc, "a")?)?;
+    parts.net_classes.push(ClassId(0))
+}
+
+fn fill(
+    alloc: Global,
+    parts: &mut BoardParts,
+    blocks: &[Block],
+    pins: &[Pin],
+) -> Result<(), NoMemory> {
+    add_layers(alloc, parts)?;
+    for block in blocks {
+        parts.blocks.push(*block)?;
+    }
+    for pin in pins {
+        parts.pins.push(*pin)?;
+    }
+    Ok(())
+}
+
 /// A board of two layers, one kind of via over both, one class and one net.
 fn parts_of(
     alloc: Global,
@@ -40,22 +62,9 @@ fn parts_of(
     blocks: &[Block],
     pins: &[Pin],
 ) -> Result<BoardParts, NoMemory> {
-    let rule = Rule { half: 1, gap: 2 };
-    Ok(BoardParts {
-        name: Text::from_str(alloc, "small")?,
-        width,
-        height,
-        layers: names(alloc, &["top", "bottom"])?,
-        classes: names(alloc, &["thin"])?,
-        rules: List::from_slice(alloc, &[rule, rule])?,
-        kind_names: names(alloc, &["hole"])?,
-        kinds: List::from_slice(alloc, &[kind()])?,
-        pads: List::from_slice(alloc, &[2])?,
-        blocks: List::from_slice(alloc, blocks)?,
-        net_names: names(alloc, &["a"])?,
-        net_classes: List::from_slice(alloc, &[ClassId(0)])?,
-        pins: List::from_slice(alloc, pins)?,
-    })
+    let mut parts = BoardParts::new(alloc, "small", width, height)?;
+    fill(alloc, &mut parts, blocks, pins)?;
+    Ok(parts)
 }
 
 fn board_of(rt: &impl Abort, alloc: Global, parts: BoardParts) -> Result<Board, NoMemory> {

@@ -1,7 +1,7 @@
 use geo_rect::{ClassId, LayerId, NetId};
 
 /// The first line of a connection.
-#[derive(Clone, Copy, Debug, PartialEq, Eq)]
+#[derive(Clone, Copy)]
 pub struct ConnHead {
     /// The number of the connection, from 1.
     pub number: u64,
@@ -12,7 +12,7 @@ pub struct ConnHead {
 }
 
 /// The first line of a certificate.
-#[derive(Clone, Copy, Debug, PartialEq, Eq)]
+#[derive(Clone, Copy)]
 pub struct CertHead {
     /// In micrometres of wire.
     pub bound: Option<u128>,
@@ -21,14 +21,14 @@ pub struct CertHead {
 }
 
 /// The line of a connection that cannot be made.
-#[derive(Clone, Copy, Debug, PartialEq, Eq)]
+#[derive(Clone, Copy)]
 pub struct NoneHead {
     /// The number that it would have, from 1.
     pub number: u64,
 }
 
 /// The first line of what came of a net.
-#[derive(Clone, Copy, Debug, PartialEq, Eq)]
+#[derive(Clone, Copy)]
 pub struct RouteHead {
     pub net: NetId,
     /// How many connections were made.
@@ -38,7 +38,7 @@ pub struct RouteHead {
 }
 
 /// The first line of a reply, with the number of the parts that follow.
-#[derive(Clone, Copy, Debug, PartialEq, Eq)]
+#[derive(Clone, Copy)]
 pub enum Head {
     Route(RouteHead),
     All(u64),

@@ -10,39 +10,38 @@ use std::test::Fail;
 
 const TOP: LayerId = LayerId(0);
 
-fn one_name(alloc: Global, name: &str) -> Result<List<Text>, NoMemory> {
-    let mut list = List::new(alloc);
-    list.push(Text::from_str(alloc, name)?)?;
-    Ok(list)
+/// One layer, one class of half width 1 and gap 2, and the nets a and b.
+fn add_nets(alloc: Global, parts: &mut BoardParts) -> Result<(), NoMemory> {
+    parts.layers.push(Text::from_str(alloc, "top")?)?;
+    parts.classes.push(Text::from_str(alloc, "thin")?)?;
+    parts.rules.push(Rule { half: 1, gap: 2 })?;
+    parts.net_names.push(Text::from_str(alloc, "a")?)?;
+    parts.net_names.push(Text::from_str(alloc, "b")?)?;
+    parts.net_classes.push(ClassId(0))?;
+    parts.net_classes.push(ClassId(0))
 }
 
-fn net_names(alloc: Global) -> Result<List<Text>, NoMemory> {
-    let mut list = one_name(alloc, "a")?;
-    list.push(Text::from_str(alloc, "b")?)?;
-    Ok(list)
-}
-
-/// 40 by 20, with one layer, one class of half width 1 and gap 2, and the nets a and b.
-fn small_board(
+fn fill(
     alloc: Global,
-    blocks: List<Block>,
-    pins: List<Pin>,
-) -> Result<BoardParts, NoMemory> {
-    Ok(BoardParts {
-        name: Text::from_str(alloc, "small")?,
-        width: 40,
-        height: 20,
-        layers: one_name(alloc, "top")?,
-        classes: one_name(alloc, "thin")?,
-        rules: List::from_slice(alloc, &[Rule { half: 1, gap: 2 }])?,
-        kind_names: List::new(alloc),
-        kinds: List::new(alloc),
-        pads: List::new(alloc),
-        blocks,
-        net_names: net_names(alloc)?,
-        net_classes: List::from_slice(alloc, &[ClassId(0), ClassId(0)])?,
-        pins,
-    })
+    parts: &mut BoardParts,
+    blocks: &[Block],
+    pins: &[Pin],
+) -> Result<(), NoMemory> {
+    add_nets(alloc, parts)?;
+    for block in blocks {
+        parts.blocks.push(*block)?;
+    }
+    for pin in pins {
+        parts.pins.push(*pin)?;
+    }
+    Ok(())
+}
+
+/// 40 by 20, with these blockages and pins.
+fn small_board(alloc: Global, blocks: &[Block], pins: &[Pin]) -> Result<BoardParts, NoMemory> {
+    let mut parts = BoardParts::new(alloc, "small", 40, 20)?;
+    fill(alloc, &mut parts, blocks, pins)?;
+    Ok(parts)
 }
 
 fn build(rt: &impl Abort, alloc: Global, parts: BoardParts) -> Result<Board, NoMemory> {
@@ -57,8 +56,6 @@ fn found(
     blocks: &[Block],
     pins: &[Pin],
 ) -> Result<List<Violation>, NoMemory> {
-    let blocks = List::from_slice(alloc, blocks)?;
-    let pins = List::from_slice(alloc, pins)?;
     let parts = small_board(alloc, blocks, pins)?;
     let board = build(rt, alloc, parts)?;
     let made = Made::none(alloc, &board)?;
@@ -154,7 +151,7 @@ fn wire_from_the_edge(alloc: Global, board: &Board) -> Result<Made, NoMemory>
 #[test]
 fn a_wire_leaves_the_board(rt: HostRuntime) -> Result<(), Fail> {
     let alloc = rt.alloc();
-    let parts = small_board(alloc, List::new(alloc), List::new(alloc))?;
+    let parts = small_board(alloc, &[], &[])?;
     let board = build(&rt, alloc, parts)?;
     assert_eq!(rt; board.nets(), 2);
     let made = wire_from_the_edge(alloc, &board)?;
