@@ -17,11 +17,7 @@ use strip_moves::starts_of;
 use wavefront::Queue;
 
 /// Puts all these entries into the queue. There is a target box.
-pub fn push_entries(
-    queue: &mut Queue,
-    targets: &[Spot],
-    entries: &[Entry],
-) -> Result<(), NoMemory>
+pub fn push_entries(queue: &mut Queue, targets: &[Spot], entries: &[Entry]) -> Result<(), NoMemory>
     requires pushes { queue.old.pushes + 2 ^ 63 ≤ 2 ^ 127 }
     requires target { 0 < length targets.now }
     requires targets { All HasBoundedArea targets.now }

@@ -25,25 +25,6 @@ use std::test::Fail;
 
 const TOP: LayerId = LayerId(0);
 
-/// A board, 40 by 20, on which nothing stands, with neither layers nor nets.
-fn bare(alloc: Global, name: Text) -> BoardParts {
-    BoardParts {
-        name,
-        width: 40,
-        height: 20,
-        layers: List::new(alloc),
-        classes: List::new(alloc),
-        rules: List::new(alloc),
-        kind_names: List::new(alloc),
-        kinds: List::new(alloc),
-        pads: List::new(alloc),
-        blocks: List::new(alloc),
-        net_names: List::new(alloc),
-        net_classes: List::new(alloc),
-        pins: List::new(alloc),
-    }
-}
-
 fn left_pin() -> Rect {
     Rect::new(4, 9, 6, 11)
 }
@@ -91,7 +72,7 @@ fn board_with(
     from: Rect,
     to: Rect,
 ) -> Result<Board, NoMemory> {
-    let mut parts = bare(alloc, Text::from_str(alloc, "wall")?);
+    let mut parts = BoardParts::new(alloc, "wall", 40, 20)?;
     fill(alloc, &mut parts, walls, from, to)?;
     assert!(rt; parts.is_board());
     Board::build(alloc, parts)

@@ -16,7 +16,7 @@ loop-target-preserved c =
     let P : ℕ → Type 0 = λ n. IsLowSoFar targets (take (i + 1) targets) c.args.front n in
     record {
       low = subst P (sym c.min-low.ensures)
-        (low_more targets c.args.front i c.target-item.result c.loop-target.low c.dist.result (omega arith) c.target-item.is c.loop-target.invariant.low c.dist.ensures.exact);
+          (low_more targets c.args.front i c.target-item.result c.loop-target.low c.dist.result (omega arith) c.target-item.is c.loop-target.invariant.low c.dist.ensures.exact);
       small = omega (arith, c.min-low.ensures, c.loop-target.invariant.small);
     }
 
