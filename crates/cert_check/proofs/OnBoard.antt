@@ -1,23 +1,14 @@
 -- What lies on the board has coordinates that are not large.
-use Rattle.std.proofs.Common.{◌≡◌, ◌≢◌, ◌<◌, List, All, length, get_or, arith}
-use Rattle.std.proofs.lemmas.Int.{ints}
+use Rattle.std.proofs.Common.{◌≡◌, ◌≢◌, ◌<◌, List, All, length, get_or}
 use Rattle.std.proofs.lemmas.Option.{slice_get-get_or}
-use Rattle.geo_rect.specs.declared.ids.LayerId.{LayerId}
 use Rattle.geo_rect.specs.declared.ids.NetId.{NetId}
-use Rattle.geo_rect.specs.declared.shapes.Point.{Point}
-use Rattle.geo_rect.specs.declared.shapes.Rect.{Rect}
-use Rattle.geo_rect.specs.Plane.{HasPoint, LiesIn, IsBounded, ShareNoPoint}
-use Rattle.geo_rect.proofs.Parts.{lies_in_from, bounded_within}
+use Rattle.geo_rect.specs.Plane.{ShareNoPoint}
 use Rattle.board_model.specs.declared.parts.BoardParts.{BoardParts}
-use Rattle.board_model.specs.Rules.{IsBoard, IsOnBoard}
-use Rattle.plane_core.specs.declared.strips.Strip.{Strip}
-use Rattle.plane_core.specs.Labels.{label_of}
-use Rattle.plane_core.proofs.Local.{strip_lies_in}
+use Rattle.board_model.specs.Rules.{IsBoard}
 use Rattle.plane_set.specs.Standing.{PlaneTable, HasPlanes}
 use Rattle.route_law.specs.declared.certs.Entry.{Entry}
-use Rattle.route_law.specs.Ground.{Ground, IsGround, IsWireStrip}
 use Rattle.route_law.specs.Right.{IsWellPlaced}
-use Rattle.strip_moves.specs.Grounds.{board_area, ground_of}
+use Rattle.strip_moves.specs.Grounds.{ground_of}
 use Rattle.strip_moves.proofs.Bounded.{the_ground, strip_bounded, front_bounded}
 use Rattle.cert_check.specs.Fronts.{IsBoundedEntry}
 use Rattle.cert_check.specs.Stages.{ArePlaced}

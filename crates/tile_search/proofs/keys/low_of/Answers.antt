@@ -1,5 +1,4 @@
-use Rattle.std.proofs.Common.{◌+◌, ℕ, List, take, sym, subst, arith}
-use Rattle.geo_rect.specs.declared.ids.Spot.{Spot}
+use Rattle.std.proofs.Common.{◌+◌, ℕ, take, sym, subst, arith}
 use Rattle.tile_search.proofs.Lows.{IsLowSoFar, low_first, low_more, low_all}
 use Rattle.tile_search.proofs.keys.low_of.Goals as goal
 
