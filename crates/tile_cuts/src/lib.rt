@@ -5,7 +5,10 @@
 
 mod cuts;
 mod joins;
+mod mending;
+mod reads;
 mod relabels;
+mod stitches;
 
 pub use cuts::{cut_col, cut_row};
 pub use joins::{join_side, join_up};

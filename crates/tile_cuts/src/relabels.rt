@@ -3,9 +3,10 @@ ghost use Rattle.tile_store.specs.Store.{IsPresent};
 ghost use Rattle.stitch_walk.specs.Pieces.{IsRelabelled, FillDomain};
 ghost use Rattle.stitch_walk.specs.Maximal.{AreMaximal};
 
+use crate::reads::read;
 use geo_rect::Label;
 use stitch_walk::Tiling;
-use tile_store::TileId;
+use tile_store::{Tile, TileId};
 
 /// Gives a tile another label. It takes no memory.
 pub fn relabel(t: &mut Tiling, id: TileId, label: Label)
@@ -16,7 +17,6 @@ pub fn relabel(t: &mut Tiling, id: TileId, label: Label)
     ensures filled { FillDomain t.new.store t.new.domain }
     ensures probe { AreMaximal t.new.store → AreMaximal t.new.store }
 {
-    let _id = id;
-    let _label = label;
-    let _t = t.spare();
+    let tile = read(&t.store, id);
+    t.store.write(id, Tile { label, ..tile });
 }
