@@ -39,3 +39,22 @@ pub record IsReplaced (old new : Store) (id other : TileId) (first second : Stri
   pub first_is : IsPiece new id first
   pub second_is : IsPiece new other second
   pub elsewhere : (n : TileId) → n ≢ id → n ≢ other → piece_at new n ≡ piece_at old n
+
+-- the pieces under id and other have one label and are a rectangle together
+pub record AreJoinable (s : Store) (id other : TileId) : Type 0 where
+  pub first : Strip
+  pub second : Strip
+  pub whole : Rect
+  pub first_is : IsPiece s id first
+  pub second_is : IsPiece s other second
+  pub parts : ArePartsOf first.area second.area whole
+  pub same_label : first.label ≡ second.label
+
+-- the pieces under id and other were joined under id, and other is absent; all else is as before
+pub record AreJoined (old new : Store) (id other : TileId) : Type 0 where
+  pub first : Strip
+  pub second : Strip
+  pub whole : Rect
+  pub split : IsReplaced new old id other first second
+  pub parts : ArePartsOf first.area second.area whole
+  pub whole_is : IsPiece new id (record { area = whole; label = first.label })

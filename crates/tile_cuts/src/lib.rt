@@ -6,6 +6,7 @@
 mod cuts;
 mod joins;
 mod mending;
+mod parts;
 mod reads;
 mod relabels;
 mod stitches;
