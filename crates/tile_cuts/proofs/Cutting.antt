@@ -18,7 +18,7 @@ use Rattle.tile_cuts.specs.Parts.{IsCutInto, IsReplaced}
 use Rattle.tile_cuts.proofs.Filling.{id_not_other, filled_by_parts}
 use Rattle.tile_cuts.proofs.Mended.{but_still, tiling_mended}
 
-tile_is_there : (t : Tile) → Some t ≡ None → ⊥
+pub tile_is_there : (t : Tile) → Some t ≡ None → ⊥
 tile_is_there t e = cc
 
 -- the area and the label of a tile

@@ -17,13 +17,14 @@ use Rattle.tile_store.specs.declared.tiles.Tile.{Tile}
 use Rattle.tile_store.specs.declared.tiles.TileId.{TileId}
 use Rattle.tile_store.specs.Store.{Store, tile_at}
 use Rattle.stitch_walk.specs.Links.{stitch, stitch_point, LeadsTo, IsTiling, Tiles}
-use Rattle.stitch_walk.specs.Pieces.{AreStacked, AreInLine, IsCut}
+use Rattle.stitch_walk.specs.Pieces.{IsPiece, AreStacked, AreInLine, IsCut, CanJoin}
 use Rattle.stitch_walk.specs.Reaches.{IsPast}
 use Rattle.stitch_walk.proofs.Facing.{turned_twice, turned_back, stitch_starts}
 use Rattle.stitch_walk.proofs.Filled.{piece_of_tile}
 use Rattle.stitch_walk.proofs.Linked.{small_along, small_tile}
 use Rattle.tile_cuts.specs.Parts.{IsCutInto, IsReplaced}
 use Rattle.tile_cuts.proofs.Cutting.{piece}
+use Rattle.tile_cuts.proofs.Filling.{one_piece}
 use Rattle.tile_cuts.proofs.Splitting.{stacked_parts, in_line_parts}
 
 -- a part of a rectangle with small coordinates has small ones
@@ -79,7 +80,7 @@ module _ (s : Store) (id : TileId) (t : Tile) (there : tile_at s id ≡ Some t) 
   past_right = part_past s Below id t second there (in_line_parts first second t.area are).in_second are.right_rows.below
 
 -- the upper part has the point above the lower one's corner, and the lower one that below its corner
-pub above_lower : (first second whole : Rect) → AreStacked first second whole → HasPoint second (stitch_point Above first)
+above_lower : (first second whole : Rect) → AreStacked first second whole → HasPoint second (stitch_point Above first)
 above_lower first second whole are =
     let a = are.lower_columns.left in
     let b = are.upper_columns.left in
@@ -103,7 +104,7 @@ below_upper first second whole are =
       up = record { from = let o = first.y_ordered in omega (arith, ints); to = omega (arith, ints) };
     }
 
-pub right_of_left : (first second whole : Rect) → AreInLine first second whole → HasPoint second (stitch_point Right first)
+right_of_left : (first second whole : Rect) → AreInLine first second whole → HasPoint second (stitch_point Right first)
 right_of_left first second whole are =
     let a = are.left_rows.below in
     let b = are.right_rows.below in
@@ -126,6 +127,18 @@ left_of_right first second whole are =
       across = record { from = let o = first.x_ordered in omega (arith, ints); to = omega (arith, ints) };
       up = record { from = omega (arith, ints); to = let o = second.y_ordered in omega (arith, ints) };
     }
+
+-- the other piece has the point of the first one's stitch
+first_point : (s : Store) (id : TileId) (t : Tile) (p : Strip) (second : Rect) (side : Side) → tile_at s id ≡ Some t → IsPiece s id p → HasPoint second (stitch_point side p.area) → HasPoint second (stitch_point side t.area)
+first_point s id t p second side there is_piece h =
+    let P : Strip → Type 0 = λ q. HasPoint second (stitch_point side q.area) in
+    subst P (one_piece s id p (piece t) is_piece (piece_of_tile s id t there)) h
+
+pub right_neighbour : (s : Store) (id : TileId) (t : Tile) → tile_at s id ≡ Some t → (can : CanJoin AreInLine s id) → HasPoint can.second.area (stitch_point Right t.area)
+right_neighbour s id t there can = first_point s id t can.first can.second.area Right there can.first_is (right_of_left can.first.area can.second.area can.whole can.parts)
+
+pub upper_neighbour : (s : Store) (id : TileId) (t : Tile) → tile_at s id ≡ Some t → (can : CanJoin AreStacked s id) → HasPoint can.second.area (stitch_point Above t.area)
+upper_neighbour s id t there can = first_point s id t can.first can.second.area Above there can.first_is (above_lower can.first.area can.second.area can.whole can.parts)
 
 -- two tiles with these areas and labels, that keep the stitches of the whole at its two corners
 pub record KeepCorners (t first second : Tile) : Type 0 where
