@@ -10,12 +10,12 @@ use Rattle.tile_store.specs.declared.tiles.Tile.{Tile}
 use Rattle.tile_store.specs.declared.tiles.TileId.{TileId}
 use Rattle.tile_store.specs.Store.{Store, tile_at, ChangesAt}
 use Rattle.stitch_walk.specs.Links.{Holds, stitch, stitch_point, LeadsTo, IsTiling, Tiles}
-use Rattle.stitch_walk.specs.Pieces.{piece_of, piece_at, IsPiece, FillDomain}
+use Rattle.stitch_walk.specs.Pieces.{piece_of}
 use Rattle.stitch_walk.proofs.Filled.{filled, piece_of_tile}
 use Rattle.stitch_walk.proofs.Linked.{one_tile, decide_id}
 use Rattle.tile_cuts.specs.Mending.{IsLinkedBut, IsMended, AllName}
 use Rattle.tile_cuts.specs.Parts.{IsCutInto, IsReplaced}
-use Rattle.tile_cuts.proofs.Filling.{id_not_other, filled_by_parts}
+use Rattle.tile_cuts.proofs.Filling.{filled_by_parts}
 use Rattle.tile_cuts.proofs.Mended.{but_still, tiling_mended}
 
 pub tile_is_there : (t : Tile) → Some t ≡ None → ⊥

@@ -1,7 +1,6 @@
 -- Tiles that fill the domain do so when one of them is replaced by its two parts, and when two that are
 -- the parts of a rectangle are replaced by it.
-use Rattle.std.proofs.Common.{◌≡◌, ◌≢◌, ◌⊎◌, inl, inr, Some, None, sym, subst, ap, ◌∙◌}
-use Rattle.geo_rect.specs.declared.ids.Label.{Label}
+use Rattle.std.proofs.Common.{◌≡◌, ◌≢◌, ◌⊎◌, inl, inr, Some, None, sym, subst, ◌∙◌}
 use Rattle.geo_rect.specs.declared.shapes.Point.{Point}
 use Rattle.geo_rect.specs.declared.shapes.Rect.{Rect}
 use Rattle.geo_rect.specs.Plane.{HasPoint, LiesIn}

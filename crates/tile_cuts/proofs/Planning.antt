@@ -1,12 +1,12 @@
 -- The two tiles that a tile is cut into, before the cut.
-use Rattle.std.proofs.Common.{ℤ, pos, ◌≡◌, ◌⊎◌, inl, inr, ◌-ℤ◌, Some, refl, sym, subst, ap, ◌∙◌, arith}
+use Rattle.std.proofs.Common.{ℤ, pos, ◌≡◌, ◌⊎◌, inl, inr, ◌-ℤ◌, Some, sym, subst, ap, ◌∙◌, arith}
 use Rattle.std.specs.declared.option.Option.{Option}
 use Rattle.std.proofs.lemmas.Int.{ints}
 use Rattle.geo_rect.specs.declared.shapes.Point.{Point}
 use Rattle.geo_rect.specs.declared.shapes.Rect.{Rect}
 use Rattle.geo_rect.specs.Axis.{HasNumber}
 use Rattle.geo_rect.specs.Plane.{columns, rows, HasPoint}
-use Rattle.geo_rect.proofs.Parts.{low_in, high_in, lies_in_from}
+use Rattle.geo_rect.proofs.Parts.{low_in, lies_in_from}
 use Rattle.plane_core.specs.declared.sides.Side.{Side}
 use Rattle.plane_core.specs.declared.sides.Side.TheVariants.{Left, Below, Right, Above}
 use Rattle.plane_core.specs.declared.strips.Strip.{Strip}
@@ -21,7 +21,7 @@ use Rattle.stitch_walk.specs.Pieces.{IsPiece, AreStacked, AreInLine, IsCut, CanJ
 use Rattle.stitch_walk.specs.Reaches.{IsPast}
 use Rattle.stitch_walk.proofs.Facing.{turned_twice, turned_back, stitch_starts}
 use Rattle.stitch_walk.proofs.Filled.{piece_of_tile}
-use Rattle.stitch_walk.proofs.Linked.{small_along, small_tile}
+use Rattle.stitch_walk.proofs.Linked.{small_along}
 use Rattle.tile_cuts.specs.Parts.{IsCutInto, IsReplaced}
 use Rattle.tile_cuts.proofs.Cutting.{piece}
 use Rattle.tile_cuts.proofs.Filling.{one_piece}

@@ -16,12 +16,12 @@ use Rattle.plane_core.specs.declared.strips.Strip.{Strip}
 use Rattle.plane_core.specs.Labels.{IsSmall}
 use Rattle.tile_store.specs.declared.tiles.Tile.{Tile}
 use Rattle.tile_store.specs.declared.tiles.TileId.{TileId}
-use Rattle.tile_store.specs.Store.{Store, tile_at, IsPresent, ChangesAt}
+use Rattle.tile_store.specs.Store.{Store, tile_at, ChangesAt}
 use Rattle.stitch_walk.specs.Links.{stitch, stitch_point, LeadsTo}
 use Rattle.stitch_walk.specs.Pieces.{IsPiece}
 use Rattle.stitch_walk.specs.Reaches.{opposite, following}
 use Rattle.stitch_walk.proofs.Facing.{same_point, turned_twice, turned_back, stitch_starts, over, stitch_follows, leads_turned}
-use Rattle.stitch_walk.proofs.Filled.{holds_of, piece_of_tile}
+use Rattle.stitch_walk.proofs.Filled.{piece_of_tile}
 use Rattle.stitch_walk.proofs.Linked.{one_tile, decide_id, small_along}
 use Rattle.stitch_walk.proofs.Reaching.{rows_left_falls}
 use Rattle.stitch_walk.proofs.WalkState.{HoldsTurned, LeadsToTurned, left_of, rows_left}

@@ -5,7 +5,7 @@ use Rattle.geo_rect.specs.declared.shapes.Interval.{Interval}
 use Rattle.geo_rect.specs.declared.shapes.Point.{Point}
 use Rattle.geo_rect.specs.declared.shapes.Rect.{Rect}
 use Rattle.geo_rect.specs.Axis.{HasNumber}
-use Rattle.geo_rect.specs.Plane.{columns, rows, HasPoint}
+use Rattle.geo_rect.specs.Plane.{columns, rows}
 use Rattle.geo_rect.proofs.Same.{same_interval, same_rect}
 use Rattle.plane_core.specs.LocalForm.{HaveSameColumns}
 use Rattle.stitch_walk.specs.Pieces.{IsSplit, HaveSameRows, AreStacked, AreInLine}

@@ -8,12 +8,12 @@ relink_side-requires-2 c =
 
 pub relink_side-requires-3 : goal.relink_side-requires-3
 relink_side-requires-3 c =
-    but_in_some c.args.id c.args.area c.relink_side.new.store c.relink_side-2.new.store c.relink_side-2.ensures.mended 
+    but_in_some c.args.id c.args.area c.relink_side.new.store c.relink_side-2.new.store c.relink_side-2.ensures.mended
     (but_in_some c.args.id c.args.area c.args.store.now c.relink_side.new.store c.relink_side.ensures.mended c.requires)
 
 pub relink_side-requires-4 : goal.relink_side-requires-4
 relink_side-requires-4 c =
-    but_in_some c.args.id c.args.area c.relink_side-2.new.store c.relink_side-3.new.store c.relink_side-3.ensures.mended 
+    but_in_some c.args.id c.args.area c.relink_side-2.new.store c.relink_side-3.new.store c.relink_side-3.ensures.mended
     (but_in_some c.args.id c.args.area c.relink_side.new.store c.relink_side-2.new.store c.relink_side-2.ensures.mended
     (but_in_some c.args.id c.args.area c.args.store.now c.relink_side.new.store c.relink_side.ensures.mended c.requires))
 

@@ -1,5 +1,5 @@
 -- The walk along one side that mends the stitches of the other side.
-use Rattle.std.proofs.Common.{◌≡◌, Some, subst, ap, sym, ◌∙◌}
+use Rattle.std.proofs.Common.{subst, sym}
 use Rattle.std.specs.declared.option.Option.{Option}
 use Rattle.tile_store.specs.declared.tiles.TileId.{TileId}
 use Rattle.stitch_walk.proofs.Reaching.{when_true, when_false}
