@@ -49,9 +49,6 @@ module _ (s s1 s2 : Store) (domain : Rect) (id other : TileId) (first second : T
     elsewhere = λ n d e. ap piece_of (elsewhere n d e);
   }
 
-  second_there : (n : TileId) (p : Point) → HasPoint second.area p → n ≡ other → Holds s2 n p
-  second_there n p h e = let P : TileId → Type 0 = λ i. Holds s2 i p in subst P (sym e) (record { tile = second; is_there = put.here; has_point = h })
-
   first_holds : (n : TileId) (p : Point) → n ≡ id → HasPoint first.area p → Holds s2 n p
   first_holds n p e h = let P : TileId → Type 0 = λ i. Holds s2 i p in subst P (sym e) (record { tile = first; is_there = first_there; has_point = h })
 

@@ -31,9 +31,6 @@ moved s n p q at e f h = let P : Strip → Type 0 = λ r. HasPoint r.area at in 
 
 -- whole is the piece under id in the store as a whole; in the other store its parts are under id and other
 module _ (coarse fine : Store) (id other : TileId) (first second whole : Strip) (split : IsReplaced coarse fine id other first second) (is_whole : IsPiece coarse id whole) (parts : ArePartsOf first.area second.area whole.area) where
-  pub id_not_other : id ≢ other
-  id_not_other e = let P : TileId → Type 0 = λ i. IsPiece coarse i whole in not_absent coarse other whole (subst P e is_whole) split.was_absent
-
   -- where a piece of the fine store comes from
   data Comes (n : TileId) (at : Point) : Type 0 where
     as_first : n ≡ id → HasPoint first.area at → Comes n at
@@ -52,12 +49,6 @@ module _ (coarse fine : Store) (id other : TileId) (first second whole : Strip) 
   -- a piece of either store that is neither cut nor joined is one of the other
   kept : (n : TileId) (p : Strip) → n ≢ id → n ≢ other → IsPiece fine n p → IsPiece coarse n p
   kept n p d f e = sym (split.elsewhere n d f) ∙ e
-
-  in_whole : (n : TileId) (at : Point) → Comes n at → (n ≡ id) ⊎ (n ≡ other) → HasPoint whole.area at
-  in_whole n at (as_first e h) _ = parts.in_first at h
-  in_whole n at (as_second e h) _ = parts.in_second at h
-  in_whole n at (as_kept d f) (inl e) = absurd (d e)
-  in_whole n at (as_kept d f) (inr e) = absurd (f e)
 
   module _ (domain : Rect) (fill : FillDomain coarse domain) where
     part_inside : (n : TileId) (p : Strip) (at : Point) → IsPiece fine n p → HasPoint p.area at → Comes n at → HasPoint domain at

@@ -26,6 +26,7 @@ use Rattle.stitch_walk.proofs.Linked.{one_tile, decide_id, small_along}
 use Rattle.stitch_walk.proofs.Reaching.{rows_left_falls}
 use Rattle.stitch_walk.proofs.WalkState.{HoldsTurned, LeadsToTurned, left_of, rows_left}
 use Rattle.tile_cuts.specs.Mending.{with_stitch, IsLinkedBut, IsMended, AllName}
+use Rattle.tile_cuts.proofs.Filling.{one_piece}
 use Rattle.tile_cuts.proofs.Mended.{mended_none, mended_once, mended_twice, but_still, leads_still, next_stitch, new_stitch}
 
 -- the point past the top of the turned rectangle's last column, one step to the right
@@ -58,9 +59,6 @@ faces_not_itself side r h = let a = h.across.to in omega (arith, ints)
 left_not_itself : (side : Side) (r : Rect) (y : ℤ) → HasPoint (turned side r) (left_of side r y) → ⊥
 left_not_itself side r y h = let a = h.across.from in omega (arith, ints)
 
-one_piece : (p q : Strip) → Some p ≡ Some q → p ≡ q
-one_piece p q e = cc
-
 -- the walk has come to this row: the stitches that face the area and end below it are mended, and next
 -- is the tile left of the area in that row
 pub record IsRelinking (old now : Store) (side : Side) (id : TileId) (area : Rect) (next : Option TileId) : Type 0 where
@@ -90,8 +88,7 @@ module _ (s : Store) (domain : Rect) (id : TileId) (area : Rect) (but : IsLinked
   own_area : (n : TileId) (t : Tile) → tile_at s n ≡ Some t → n ≡ id → t.area ≡ area
   own_area n t e same =
       let P : TileId → Type 0 = λ i. IsPiece s i (record { area = t.area; label = t.label }) in
-      let here = subst P same (piece_of_tile s n t e) in
-      ap (λ (p : Strip). p.area) (one_piece _ _ (sym here ∙ but.here.is_piece))
+      ap (λ (p : Strip). p.area) (one_piece s id (record { area = t.area; label = t.label }) (record { area = area; label = but.here.label }) (subst P same (piece_of_tile s n t e)) but.here.is_piece)
 
   -- a tile and the area have no common point where the tile is known to be another
   other_tile : (n : TileId) (t : Tile) (q : Point) → tile_at s n ≡ Some t → (t.area ≡ area → ⊥) → HasPoint (turned side t.area) q → HasPoint (turned side area) q → ⊥
