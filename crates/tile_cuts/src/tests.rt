@@ -35,7 +35,10 @@ fn is_same(a: Rect, b: Rect) -> bool
     if a.x1 != b.x1 {
         return false;
     }
-    a.y1 == b.y1
+    if a.y1 != b.y1 {
+        return false;
+    }
+    true
 }
 
 /// The number of the free tile that has this area.
@@ -106,7 +109,10 @@ fn cut_and_join<L: Ledger>(rt: &impl Abort, alloc: Global, blank: Blank) -> Resu
     let right = tile_of(rt, &t, Rect::new(4, 5, 9, 9), &mut steps);
     let found = above(alloc, &t, lower, &mut steps)?;
     assert_eq!(rt; found.as_slice(), [right, left].as_slice());
-    assert_eq!(rt; count_meeting(rt, alloc, &t, Rect::new(3, 4, 4, 5), &mut steps)?, 3);
+    assert_eq!(rt;
+        count_meeting(rt, alloc, &t, Rect::new(3, 4, 4, 5), &mut steps)?,
+        3
+    );
     join_side(&mut t, left);
     let lower = tile_of(rt, &t, Rect::new(0, 0, 9, 4), &mut steps);
     let _upper = tile_of(rt, &t, Rect::new(0, 5, 9, 9), &mut steps);
