@@ -80,7 +80,9 @@ fn stitch_across(t: &Tiling, id: TileId, side: Side, part: Rect) -> Option<TileI
     None
 }
 
-/// Puts two tiles in the place of the one under `id`, and gives the number of the second.
+/// Puts two tiles in the place of the one under `id`, and gives the number of the second. Their stitches
+/// lead where they should in the tiling as it is; that of the first into the second is mended with those
+/// of the neighbours.
 fn replace(t: &mut Tiling, id: TileId, first: Tile, second: Tile) -> TileId
     requires ready { IsCutInto t.old id first second }
     requires room { 0 < t.old.store.spare }

@@ -25,7 +25,8 @@ pub fn relink(store: &mut TileStore, id: TileId, area: Rect)
     relink_side(store, id, area, Side::Above);
 }
 
-/// The same for the tiles on one side, which have these stitches on the other side.
+/// The same for the tiles on one side, which have these stitches on the other side: from the tile that
+/// the stitch on this side names, each by its next stitch, while they face the tile under `id`.
 fn relink_side(store: &mut TileStore, id: TileId, area: Rect, side: Side)
     requires { (domain : Area) × IsLinkedBut store.old domain id area }
     ensures mended { IsMended store.old store.new id area }
