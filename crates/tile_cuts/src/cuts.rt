@@ -15,6 +15,27 @@ use plane_core::Side;
 use stitch_walk::{Tiling, has_point};
 use tile_store::{Tile, TileId};
 
+/// A tile in two parts at a row or a column: the first keeps its number and gets another stitch where it
+/// now ends (`$end`), the second gets another where it begins (`$start`) and one to the first (`$inner`).
+macro_rules! cut {
+    ($t:ident, $id:ident, $at:ident, $split:ident, $end:ident, $end_side:expr, $start:ident, $start_side:expr, $inner:ident) => {{
+        let whole = read(&$t.store, $id);
+        let parts = $split(whole.area, $at);
+        let first = Tile {
+            area: parts.first,
+            $end: stitch_across($t, $id, $end_side, parts.first),
+            ..whole
+        };
+        let second = Tile {
+            area: parts.second,
+            $start: stitch_across($t, $id, $start_side, parts.second),
+            $inner: Some($id),
+            ..whole
+        };
+        replace($t, $id, first, second)
+    }};
+}
+
 /// Cuts a tile so that a new one begins at row `y`, and gives the new one's number. The lower part
 /// stays under `id`. It takes no memory: there has to be a place.
 pub fn cut_row(t: &mut Tiling, id: TileId, y: i32) -> TileId
@@ -25,20 +46,7 @@ pub fn cut_row(t: &mut Tiling, id: TileId, y: i32) -> TileId
     ensures domain { t.new.domain ≡ t.old.domain }
     ensures spare { t.old.store.spare ≤ t.new.store.spare + 1 }
 {
-    let whole = read(&t.store, id);
-    let parts = split_rows(whole.area, y);
-    let first = Tile {
-        area: parts.first,
-        tr: stitch_across(t, id, Side::Right, parts.first),
-        ..whole
-    };
-    let second = Tile {
-        area: parts.second,
-        bl: stitch_across(t, id, Side::Left, parts.second),
-        lb: Some(id),
-        ..whole
-    };
-    replace(t, id, first, second)
+    cut!(t, id, y, split_rows, tr, Side::Right, bl, Side::Left, lb)
 }
 
 /// Cuts a tile so that a new one begins at column `x`, and gives the new one's number. The left part
@@ -51,20 +59,17 @@ pub fn cut_col(t: &mut Tiling, id: TileId, x: i32) -> TileId
     ensures domain { t.new.domain ≡ t.old.domain }
     ensures spare { t.old.store.spare ≤ t.new.store.spare + 1 }
 {
-    let whole = read(&t.store, id);
-    let parts = split_columns(whole.area, x);
-    let first = Tile {
-        area: parts.first,
-        rt: stitch_across(t, id, Side::Above, parts.first),
-        ..whole
-    };
-    let second = Tile {
-        area: parts.second,
-        lb: stitch_across(t, id, Side::Below, parts.second),
-        bl: Some(id),
-        ..whole
-    };
-    replace(t, id, first, second)
+    cut!(
+        t,
+        id,
+        x,
+        split_columns,
+        rt,
+        Side::Above,
+        lb,
+        Side::Below,
+        bl
+    )
 }
 
 /// The stitch that a part of the tile under `id` has on a side where the tile ends too.

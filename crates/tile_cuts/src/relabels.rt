@@ -1,7 +1,6 @@
 ghost use Rattle.std.specs.Prelude.{◌≡◌, ◌≤◌};
 ghost use Rattle.tile_store.specs.Store.{IsPresent};
 ghost use Rattle.stitch_walk.specs.Pieces.{IsRelabelled, FillDomain};
-ghost use Rattle.stitch_walk.specs.Maximal.{AreMaximal};
 
 use crate::reads::read;
 use geo_rect::Label;
@@ -15,7 +14,6 @@ pub fn relabel(t: &mut Tiling, id: TileId, label: Label)
     ensures domain { t.new.domain ≡ t.old.domain }
     ensures spare { t.old.store.spare ≤ t.new.store.spare }
     ensures filled { FillDomain t.new.store t.new.domain }
-    ensures probe { AreMaximal t.new.store → AreMaximal t.new.store }
 {
     let tile = read(&t.store, id);
     t.store.write(id, Tile { label, ..tile });
