@@ -2,3 +2,4 @@ pub mod Checking
 pub mod Ended
 pub mod Replied
 pub mod Sent
+pub mod SummedUp

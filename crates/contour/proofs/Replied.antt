@@ -55,9 +55,9 @@ underway_more b quiet cs n d old new held between holds lt u o =
     let Q : List ℕ → Type 0 = λ text. Appends held holds text in
     record {
       replies = u.replies ++ o.reply ∷ [];
-      run = subst P (sym (take_more cs n d lt)) (run-next b (nothing_made b) old new (take n cs) (get_or cs n d) u.replies o.reply u.run o.step);
-      regular = All-push (IsRegular b) u.replies o.reply u.regular o.regular;
-      written = subst Q (sym (replies_text-more b quiet u.replies o.reply)) (Appends-join held between holds (replies_text b quiet u.replies) (reply_text b quiet o.reply) u.written o.written);
+      run = subst P (sym (take_more cs n d lt)) (run-next b (nothing_made b) old new (take n cs) (get_or cs n d) u.replies o.reply u.run o.answered.step);
+      regular = All-push (IsRegular b) u.replies o.reply u.regular o.answered.regular;
+      written = subst Q (sym (replies_text-more b quiet u.replies o.reply)) (Appends-join held between holds (replies_text b quiet u.replies) (reply_text b quiet o.reply) u.written o.answered.written);
     }
 
 -- the same, where the session's board is this one
@@ -65,7 +65,7 @@ pub underway_next : (b b' : BoardParts) (quiet : Bool) (cs : List Command) (n : 
 underway_next b b' quiet cs n d old new held between holds e lt u o =
     underway_more b quiet cs n d old new held between holds lt u (subst (λ (x : BoardParts). AnswersOne x quiet old (get_or cs n d) new between holds) e o)
 
-rose-from : (a b c : ℕ) → a ≤ b → Rose b c → Rose a c
+pub rose-from : (a b c : ℕ) → a ≤ b → Rose b c → Rose a c
 rose-from a b c l (inl h) = inl (omega (arith, l, h))
 rose-from a b c l (inr h) = inr h
 

@@ -12,7 +12,7 @@ use Rattle.reply_text.specs.Texts.{reply_text}
 use Rattle.contour.specs.declared.endings.Ending.{Ending}
 use Rattle.contour.specs.declared.endings.Ending.TheVariants.{BadWords, TooLong, Refused, Wrong, ReadFault, WriteFault, NoMemory}
 use Rattle.contour.specs.Endings.{EndsAnswer, EndsSending}
-use Rattle.contour.specs.Sessions.{AnswersOne, AnswersPart}
+use Rattle.contour.specs.Sessions.{AnswersPart, AnswersWith}
 
 pub of_ok : {E : Type 0} (P : Type 0) (r : Result (Unit {0}) E) → IsOk r → OnOk r P → P
 of_ok P (Ok u) h p = p
@@ -26,8 +26,8 @@ if_err_and (Ok x) P Q f h = tt
 if_err_and (Err e) P Q f h = f e h
 
 module _ (b : BoardParts) (quiet : Bool) (old : List (List Conn)) (c : Command) (reply : Reply) (new : List (List Conn)) (held holds : Option (List ℕ)) where
-  pub answers_one : IsStep b old c reply new → IsRegular b reply → Appends held holds (reply_text b quiet reply) → AnswersOne b quiet old c new held holds
-  answers_one step regular written = record { reply = reply; step = step; regular = regular; written = written }
+  pub answers_with : IsStep b old c reply new → IsRegular b reply → Appends held holds (reply_text b quiet reply) → AnswersWith b quiet old c reply new held holds
+  answers_with step regular written = record { step = step; regular = regular; written = written }
 
   pub ends_answer : (before after : ℕ) → IsStep b old c reply new → IsRegular b reply → (e : Ending) → EndsSending (reply_text b quiet reply) held holds before after e → EndsAnswer b quiet old c held holds before after e
   ends_answer before after step regular BadWords h = h

@@ -1,5 +1,5 @@
 -- What a whole call of the program has done when it ends, and what shows each ending.
-use Rattle.std.specs.Prelude.{◌≡◌, ℕ, Bool, ◌⊎◌, List, [], Option}
+use Rattle.std.specs.Prelude.{◌≡◌, ℕ, Bool, true, ◌⊎◌, List, [], Option}
 use Rattle.io_edge.specs.Streams.{Appends, AppendsPart, IsToldAs, Rose}
 use Rattle.board_gen.specs.Generated.{generated}
 use Rattle.board_reader.specs.Reading.{Told}
@@ -8,9 +8,10 @@ use Rattle.contour.specs.declared.endings.Ending.TheVariants.{BadWords, TooLong,
 use Rattle.contour.specs.declared.endings.Status.{Status}
 use Rattle.contour.specs.declared.endings.Status.TheVariants as status
 use Rattle.contour.specs.declared.requests.Request.{Request}
-use Rattle.contour.specs.declared.requests.Request.TheVariants.{Run, Check, Gen}
+use Rattle.contour.specs.declared.requests.Request.TheVariants.{Run, Check, Gen, Demo}
 use Rattle.contour.specs.Answers.{AnswersAll, AnswersFirst, IsCutShort}
 use Rattle.contour.specs.Checked.{FindsRight, FindsRightInPart, FindsWrong, IsChecked, IsUnchecked, IsUncheckedAs}
+use Rattle.contour.specs.Demos.{IsOfGenerated, SumsUp, SumsUpInPart}
 use Rattle.contour.specs.Endings.{status_of, line_of}
 use Rattle.contour.specs.Requests.{IsNoRequest, IsRequestThat, ReadsInput}
 use Rattle.contour.specs.Inputs.{IfTold, IsToldAnd, IsTooLong, IsAcceptedAs, IsAccepted, IsRefusedAs, IsRefused}
@@ -43,6 +44,7 @@ abbrev pub HasDone : Option (List ℕ) → Option (List ℕ) → Option (List �
 HasDone left held holds (Run quiet) = IfTold left (AnswersInput quiet held holds)
 HasDone left held holds Check = IfTold left (FindsRight held holds)
 HasDone left held holds (Gen n) = Appends held holds (generated n)
+HasDone left held holds (Demo n) = IsOfGenerated n (λ b cs. SumsUp b cs n held holds)
 
 -- what a request has read when it is done, where the source had left the one and then the other: all that there was, or
 -- nothing
@@ -50,42 +52,49 @@ abbrev pub HasRead : Option (List ℕ) → Option (List ℕ) → Request → Typ
 HasRead left left' (Run quiet) = IsToldAs left' []
 HasRead left left' Check = IsToldAs left' []
 HasRead left left' (Gen n) = left' ≡ left
+HasRead left left' (Demo n) = left' ≡ left
 
 -- what a request has written when a write failed
 abbrev pub HasBeenCut : Option (List ℕ) → Option (List ℕ) → Option (List ℕ) → Request → Type 0
 HasBeenCut left held holds (Run quiet) = IfTold left (CutsInputShort quiet held holds)
 HasBeenCut left held holds Check = IfTold left (FindsRightInPart held holds)
 HasBeenCut left held holds (Gen n) = AppendsPart held holds (generated n)
+HasBeenCut left held holds (Demo n) = IsOfGenerated n (λ b cs. SumsUpInPart b cs n held holds)
 
 -- what a request has written when memory was wanting
 abbrev pub HasRunOut : Option (List ℕ) → Option (List ℕ) → Option (List ℕ) → Request → Type 0
 HasRunOut left held holds (Run quiet) = IfTold left (AnswersNoneOrFirst quiet held holds)
 HasRunOut left held holds Check = holds ≡ held
 HasRunOut left held holds (Gen n) = holds ≡ held
+HasRunOut left held holds (Demo n) = IsOfGenerated n (λ b cs. AnswersFirst b true cs held holds)
 
 -- the request reads an input, and this one is refused
 abbrev pub Refuses : Option (List ℕ) → Request → Type 0
 Refuses left (Run quiet) = IfTold left IsRefused
 Refuses left Check = IfTold left IsUnchecked
 Refuses left (Gen n) = ⊥
+Refuses left (Demo n) = ⊥
 
 -- the input that the request reads is told, and is refused
 abbrev pub MustRefuse : Option (List ℕ) → Request → Type 0
 MustRefuse left (Run quiet) = IsToldAnd left IsRefused
 MustRefuse left Check = IsToldAnd left IsUnchecked
 MustRefuse left (Gen n) = ⊥
+MustRefuse left (Demo n) = ⊥
 
 -- the input that the request reads is told, and is accepted; or it reads none
 abbrev pub MustAccept : Option (List ℕ) → Request → Type 0
 MustAccept left (Run quiet) = IsToldAnd left IsAccepted
 MustAccept left Check = IsToldAnd left IsChecked
 MustAccept left (Gen n) = Unit {0}
+MustAccept left (Demo n) = Unit {0}
 
 -- replies were to be checked, and some are wrong
 abbrev pub HasFoundWrong : Option (List ℕ) → Request → Type 0
 HasFoundWrong left (Run quiet) = ⊥
 HasFoundWrong left Check = IfTold left (λ bytes. (n : ℕ) × FindsWrong n bytes)
 HasFoundWrong left (Gen n) = ⊥
+HasFoundWrong left (Demo n) = ⊥
 
 -- what an ending says of a board text with commands is so
 abbrev pub IsOfBoardText : Option (List ℕ) → Ending → Type 0
@@ -112,6 +121,7 @@ abbrev pub IsOfInput : Option (List ℕ) → Ending → Request → Type 0
 IsOfInput left ending (Run quiet) = IsOfBoardText left ending
 IsOfInput left ending Check = IsOfReplies left ending
 IsOfInput left ending (Gen n) = ⊥
+IsOfInput left ending (Demo n) = ⊥
 
 -- what shows an ending of a request: of the input, from what the source had left (left) and its counts of faults (reads,
 -- reads'), and of the output, from what the sink held before and holds (held, holds) and its counts of faults (writes, writes')

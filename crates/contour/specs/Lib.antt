@@ -1,6 +1,7 @@
 pub mod Answers
 pub mod Causes
 pub mod Checked
+pub mod Demos
 pub mod Endings
 pub mod Inputs
 pub mod Requests

@@ -1,7 +1,7 @@
 -- The words that the program is called with.
 use Rattle.std.specs.Prelude.{◌≡◌, ℕ, ◌≤◌, true, false, List, [], ◌∷◌, codes, decimal, ⊤}
 use Rattle.contour.specs.declared.requests.Request.{Request}
-use Rattle.contour.specs.declared.requests.Request.TheVariants.{Run, Check, Gen}
+use Rattle.contour.specs.declared.requests.Request.TheVariants.{Run, Check, Gen, Demo}
 
 -- how many nets a generated board may have
 pub record IsSize (n : ℕ) : Type 0 where
@@ -13,6 +13,7 @@ abbrev pub IsGood : Request → Type 0
 IsGood (Run quiet) = ⊤
 IsGood Check = ⊤
 IsGood (Gen n) = IsSize n
+IsGood (Demo n) = IsSize n
 
 -- the words of a request, each as its bytes
 abbrev pub words_of : Request → List (List ℕ)
@@ -20,6 +21,7 @@ words_of (Run false) = codes "run" ∷ []
 words_of (Run true) = codes "run" ∷ codes "--quiet" ∷ []
 words_of Check = codes "check" ∷ []
 words_of (Gen n) = codes "gen" ∷ decimal n ∷ []
+words_of (Demo n) = codes "demo" ∷ decimal n ∷ []
 
 -- the words are those of no request
 abbrev pub IsNoRequest : List (List ℕ) → Type 0
@@ -37,3 +39,4 @@ abbrev pub ReadsInput : Request → Type 0
 ReadsInput (Run quiet) = ⊤
 ReadsInput Check = ⊤
 ReadsInput (Gen n) = ⊥
+ReadsInput (Demo n) = ⊥

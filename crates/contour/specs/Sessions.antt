@@ -16,12 +16,16 @@ pub record IsUnderway (b : BoardParts) (quiet : Bool) (commands : List Command) 
   pub regular : All (IsRegular b) replies
   pub written : Appends before after (replies_text b quiet replies)
 
--- the command led from the old state to the new one, and a sink took the text of the reply
-pub record AnswersOne (b : BoardParts) (quiet : Bool) (old : List (List Conn)) (command : Command) (new : List (List Conn)) (before after : Option (List ℕ)) : Type 0 where
-  pub reply : Reply
+-- the command led from the old state to the new one with this reply, and a sink took its text
+pub record AnswersWith (b : BoardParts) (quiet : Bool) (old : List (List Conn)) (command : Command) (reply : Reply) (new : List (List Conn)) (before after : Option (List ℕ)) : Type 0 where
   pub step : IsStep b old command reply new
   pub regular : IsRegular b reply
   pub written : Appends before after (reply_text b quiet reply)
+
+-- the command led from the old state to the new one with some reply, and a sink took its text
+pub record AnswersOne (b : BoardParts) (quiet : Bool) (old : List (List Conn)) (command : Command) (new : List (List Conn)) (before after : Option (List ℕ)) : Type 0 where
+  pub reply : Reply
+  pub answered : AnswersWith b quiet old command reply new before after
 
 -- the command leads on from the old state, and a sink took a part of the text of the reply
 pub record AnswersPart (b : BoardParts) (quiet : Bool) (old : List (List Conn)) (command : Command) (before after : Option (List ℕ)) : Type 0 where

@@ -6,7 +6,7 @@ ghost use Rattle.route_law.specs.Regular.{IsRegular};
 ghost use Rattle.reply_text.specs.Texts.{reply_text};
 ghost use Rattle.contour.specs.Answers.{AnswersAll};
 ghost use Rattle.contour.specs.Endings.{EndsAnswer, EndsAnswers, EndsSending};
-ghost use Rattle.contour.specs.Sessions.{AnswersOne};
+ghost use Rattle.contour.specs.Sessions.{AnswersOne, AnswersWith};
 
 use crate::endings::Ending;
 use board_model::{Board, Command};
@@ -36,18 +36,42 @@ fn send<K: Sink>(
     Ok(())
 }
 
-/// The session, if all went well until now.
-fn go_on<P: Plane>(session: Session<P>, sent: Result<(), Ending>) -> Result<Session<P>, Ending>
-    ensures ok { IfOk result (λ s. (s ≡ session) × IsOk sent) }
+/// The session and the reply, if all went well until now.
+fn go_on<P: Plane>(
+    session: Session<P>,
+    reply: Reply,
+    sent: Result<(), Ending>,
+) -> Result<(Session<P>, Reply), Ending>
+    ensures ok { IfOk result (λ a. (a.0 ≡ session) × (a.1 ≡ reply) × IsOk sent) }
     ensures err { IfErr result (λ e. sent ≡ Err e) }
 {
     match sent {
-        Ok(()) => Ok(session),
+        Ok(()) => Ok((session, reply)),
         Err(ending) => Err(ending),
     }
 }
 
 /// Makes the reply to one command and writes it. The session goes on from there.
+pub fn reply_to<P: Plane, K: Sink>(
+    alloc: Global,
+    session: Session<P>,
+    command: Command,
+    quiet: bool,
+    out: &mut K,
+) -> Result<(Session<P>, Reply), Ending>
+    requires known { IsCommandOf session.parts command }
+    ensures board { IfOk result (λ a. a.0.parts ≡ session.parts) }
+    ensures ok { IfOk result (λ a. AnswersWith session.parts quiet session.lists command a.1 a.0.lists (K.written out.old) (K.written out.new)) }
+    ensures err { IfErr result (EndsAnswer session.parts quiet session.lists command (K.written out.old) (K.written out.new) (K.faults out.old) (K.faults out.new)) }
+    ensures never_falls { K.faults out.old ≤ K.faults out.new }
+    ensures setup { K.setup out.new ≡ K.setup out.old }
+{
+    let (next, reply) = session.apply(alloc, &command)?;
+    let sent = send(alloc, next.board(), &reply, quiet, out);
+    go_on(next, reply, sent)
+}
+
+/// Makes the reply to one command and writes it. The session goes on from there without the reply.
 fn answer<P: Plane, K: Sink>(
     alloc: Global,
     session: Session<P>,
@@ -62,9 +86,8 @@ fn answer<P: Plane, K: Sink>(
     ensures never_falls { K.faults out.old ≤ K.faults out.new }
     ensures setup { K.setup out.new ≡ K.setup out.old }
 {
-    let (next, reply) = session.apply(alloc, &command)?;
-    let sent = send(alloc, next.board(), &reply, quiet, out);
-    go_on(next, sent)
+    let (next, _) = reply_to(alloc, session, command, quiet, out)?;
+    Ok(next)
 }
 
 /// Makes the reply to each command, from a session on the board in which nothing is made, and writes

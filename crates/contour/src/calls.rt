@@ -10,6 +10,7 @@ ghost use Rattle.contour.specs.Texts.{right_text};
 
 use crate::answers::answer_each;
 use crate::checks::check_text;
+use crate::demos::demo;
 use crate::endings::{Ending, Status};
 use crate::inputs::{MAX_INPUT, read_text};
 use crate::lines::{right_line, tell};
@@ -113,6 +114,7 @@ fn fulfil<S: Source, K: Sink>(
         Request::Run { quiet } => run(alloc, quiet, source, out),
         Request::Check => check(alloc, source, out),
         Request::Gen(n) => write_generated(alloc, n, out),
+        Request::Demo(n) => demo(alloc, n, out),
     }
 }
 
@@ -154,7 +156,9 @@ pub fn contour<S: Source, K: Sink, E: Sink>(
 ) -> Status
     // What the words ask for was done. Of `run`: all was read, a board text, to the end of the source, and
     // the replies to its commands were written and nothing else. Of `check`: all was read, and the
-    // replies after the board text are right. Of `gen`: nothing was read, and the text was written.
+    // replies after the board text are right. Of `gen`: nothing was read, and the text was written. Of
+    // `demo`: nothing was read, and the replies to the commands of that text were written, and then
+    // their summary.
     ensures done { result ≡ Status.Done → IsRequestThat (map string_bytes words.now)
         (HasDone (S.left source.old) (K.written out.old) (K.written out.new)) }
     ensures read { result ≡ Status.Done → IsRequestThat (map string_bytes words.now)
@@ -171,7 +175,7 @@ pub fn contour<S: Source, K: Sink, E: Sink>(
     ensures wrong { result ≡ Status.Wrong → IsRequestThat (map string_bytes words.now) (HasFoundWrong (S.left source.old)) }
 
     // What was written when the call ended early: nothing, or whole replies to the first commands,
-    // and at a fault of the output then a part of the next.
+    // and at a fault of the output then a part of the next, or of a summary.
     ensures unwritten { IsUnwritten result → out.new ≡ out.old }
     ensures cut_short { result ≡ Status.WriteFault → IsRequestThat (map string_bytes words.now)
         (HasBeenCut (S.left source.old) (K.written out.old) (K.written out.new)) }

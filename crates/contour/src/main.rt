@@ -10,6 +10,7 @@ mod check_tests;
 mod checks;
 #[cfg(test)]
 mod connector;
+mod demos;
 mod endings;
 mod in_memory;
 mod inputs;

@@ -13,6 +13,8 @@ pub enum Request {
     Check,
     /// Write the generated board text of so many nets, from 1 to 2,000.
     Gen(u32),
+    /// Write the replies to the commands of that text, and a summary of them.
+    Demo(u32),
 }
 
 /// Whether the two words are `run` and `--quiet`.
@@ -62,6 +64,15 @@ fn generator_of(word: &str) -> Option<Request>
     Some(Request::Gen(size))
 }
 
+/// The request for a demonstration of the size that a word spells.
+fn demonstration_of(word: &str) -> Option<Request>
+    ensures some { IfSome result (λ r. (words_of r ≡ codes "demo" ∷ word.now ∷ []) × IsGood r) }
+    ensures none { IfNone result ((n : ℕ) → IsSize n → decimal n ≡ word.now → ⊥) }
+{
+    let size = size_of(word)?;
+    Some(Request::Demo(size))
+}
+
 /// The request that these words make, the words of the command line without the program's own name.
 /// `None` where they make none. It takes no memory.
 pub fn request_of(words: &[String]) -> Option<Request>
@@ -76,6 +87,7 @@ pub fn request_of(words: &[String]) -> Option<Request>
             Some(Request::Run { quiet: true })
         }
         [word, number] if word.as_str() == "gen" => generator_of(number.as_str()),
+        [word, number] if word.as_str() == "demo" => demonstration_of(number.as_str()),
         _ => None,
     }
 }

@@ -1,9 +1,9 @@
 //! Routing from bytes to bytes: costs and replies that were worked out by hand.
 
-use crate::calls::contour;
 use crate::connector::CONNECTOR;
 use crate::endings::Status;
 use crate::reader_tests::{add, changed};
+use crate::tests::{expect, expect_told};
 use io_edge::{MemSink, MemSource};
 use std::alloc::Global;
 use std::process::Abort;
@@ -37,27 +37,26 @@ const QUIET: &str =
 5 10|net a sig;net b sig;pin a 5 8 5 8 top top;pin a 30 8 30 8 top top;pin b 5 12 5 12 top top;pin b 30 12 30 12 top top;end;route a;route b;rip a;strips top sig;|route a made 1 of 1;conn 1 25 1;at 5 8 top;to 30 8 top;route b made 1 of 1;conn 1 25 1;at 5 12 top;to 30 12 top;rip a removed 1;strips top sig 19;many 0 0 40 0;many 0 1 0 19;free 1 1 39 5;many 40 1 40 19;free 1 6 2 8;one a 3 6 7 8;free 8 6 27 8;one a 28 6 32 8;free 33 6 39 8;free 1 9 1 15;one b 2 9 2 10;many 3 9 7 10;one b 8 9 27 10;many 28 9 32 10;one b 33 9 33 10;free 34 9 39 15;one b 2 11 33 15;free 1 16 39 19;many 0 20 40 20;
 1 10|board 1 big 1048576 1048576;layer top;class sig;rule top sig 65535 65535;block top 0 500000 1048576 500000;net a sig;pin a 65535 65535 65535 65535 top top;pin a 983041 983041 983041 983041 top top;end;route a;|route a made 0 of 1;none 1;";
 
-/// What the program writes.
-fn written(rt: &impl Abort, alloc: Global, quiet: bool, text: &[u8]) -> Result<Vec<u8>, Fail> {
-    let mut words = Vec::new(alloc);
-    words.push(String::from_str(alloc, "run")?)?;
-    if quiet {
-        words.push(String::from_str(alloc, "--quiet")?)?;
-    }
-    let mut source = MemSource::new(alloc, text, 4096, &[])?;
-    let mut out = MemSink::new(alloc, 16384, 4096, &[])?;
-    let mut err = MemSink::new(alloc, 64, 64, &[])?;
-    let status = contour(alloc, words.as_slice(), &mut source, &mut out, &mut err);
-    assert_eq!(rt; status, Status::Done);
-    Ok(Vec::from_slice(alloc, out.held.as_slice())?)
-}
-
 /// Asserts that some lines of the output have these parts, in this order.
 fn has_in_order(rt: &impl Abort, out: &str, wanted: &str) {
     let mut lines = out.split('\n');
     for part in wanted.split(';') {
         assert!(rt; lines.any(|line| line.contains(part)), "{part} in {out}");
     }
+}
+
+/// Runs the program on this text, and looks for parts of some lines of its output.
+fn expect_parts(
+    rt: &(impl Abort + AllocGlobal),
+    words: &[&str],
+    text: &[u8],
+    wanted: &str,
+) -> Result<(), Fail> {
+    let mut source = MemSource::new(rt.alloc(), text, 4096, &[])?;
+    let mut out = MemSink::new(rt.alloc(), 16384, 4096, &[])?;
+    expect_told(rt, words, &mut source, &mut out, Status::Done, "")?;
+    has_in_order(rt, from_utf8(out.held.as_slice())?, wanted);
+    Ok(())
 }
 
 /// A case: the text, and what is wanted.
@@ -73,20 +72,31 @@ fn case_of<'a>(alloc: Global, case: &'a str) -> Result<(Vec<u8>, &'a str), Fail>
 fn connections_are_least(rt: HostRuntime) -> Result<(), Fail> {
     for case in FOUND.split('\n') {
         let (text, wanted) = case_of(rt.alloc(), case)?;
-        let out = written(&rt, rt.alloc(), false, &text)?;
-        has_in_order(&rt, from_utf8(&out)?, wanted);
+        expect_parts(&rt, &["run"], &text, wanted)?;
     }
     Ok(())
+}
+
+/// Runs the program quietly on the text of a case.
+fn expect_quiet(rt: &(impl Abort + AllocGlobal), text: &[u8], wanted: &str) -> Result<(), Fail> {
+    let mut lines = Vec::new(rt.alloc());
+    add(&mut lines, wanted, b';', b"\n")?;
+    let words = ["run", "--quiet"];
+    expect(
+        rt,
+        &words,
+        from_utf8(text)?,
+        Status::Done,
+        from_utf8(&lines)?,
+        "",
+    )
 }
 
 #[test]
 fn quiet_replies_have_no_certificates(rt: HostRuntime) -> Result<(), Fail> {
     for case in QUIET.split('\n') {
         let (text, wanted) = case_of(rt.alloc(), case)?;
-        let out = written(&rt, rt.alloc(), true, &text)?;
-        let mut lines = Vec::new(rt.alloc());
-        add(&mut lines, wanted, b';', b"\n")?;
-        assert_eq!(rt; from_utf8(&out)?, from_utf8(&lines)?, "{case}");
+        expect_quiet(&rt, &text, wanted)?;
     }
     Ok(())
 }
@@ -95,9 +105,36 @@ fn quiet_replies_have_no_certificates(rt: HostRuntime) -> Result<(), Fail> {
 fn a_connector_is_routed(rt: HostRuntime) -> Result<(), Fail> {
     let mut text = Vec::new(rt.alloc());
     add(&mut text, CONNECTOR, b'\n', b"\r\n")?;
-    let out = written(&rt, rt.alloc(), true, &text)?;
     let wanted =
         "route D4 made 1 of 1;conn 1 25700 ;all 12;route GND made 1 of 1;conn 1 19700 ;route D0 made 1 of 1;conn 1 19700 ;route D3 made 1 of 1;conn 1 19700 ;route D4 made 0 of 0;route D5 made 1 of 1;conn 1 19700 ;route D9 made 1 of 1;conn 1 19700 ;route VCC made 1 of 1;conn 1 19700 ;rules 0";
-    has_in_order(&rt, from_utf8(&out)?, wanted);
+    expect_parts(&rt, &["run", "--quiet"], &text, wanted)
+}
+
+/// How each line of a demonstration of one net begins.
+const ONE_NET: [&str; 8] = [
+    "all 1",
+    "route n1 made 1 of 1",
+    "conn 1 19720 1",
+    "at 140 1",
+    "to 19860 1",
+    "rules 0",
+    "demo 1 made 1 of 1 cost 19720 close 0",
+    "",
+];
+
+/// Asserts that the output has these lines and no others.
+fn has_lines(rt: &impl Abort, out: &str, wanted: &[&str]) {
+    assert_eq!(rt; out.split('\n').count(), wanted.len(), "{out}");
+    for (line, part) in out.split('\n').zip(wanted) {
+        assert!(rt; line.starts_with(*part), "{part} in {out}");
+    }
+}
+
+#[test]
+fn one_net_is_demonstrated(rt: HostRuntime) -> Result<(), Fail> {
+    let mut source = MemSource::new(rt.alloc(), b"not read", 4096, &[1])?;
+    let mut out = MemSink::new(rt.alloc(), 4096, 4096, &[])?;
+    expect_told(&rt, &["demo", "1"], &mut source, &mut out, Status::Done, "")?;
+    has_lines(&rt, from_utf8(out.held.as_slice())?, &ONE_NET);
     Ok(())
 }

@@ -2,7 +2,6 @@
 
 use crate::calls::contour;
 use crate::endings::Status;
-use crate::in_memory::contour_in_memory;
 use io_edge::{MemSink, MemSource};
 use std::alloc::Global;
 use std::process::Abort;
@@ -18,6 +17,18 @@ pin a 4 9 6 11 top top
 pin a 34 9 36 11 top top
 end
 rules
+";
+
+const ROUTED: &str = "board 1 demo 40 20
+layer top
+class sig
+rule top sig 1 2
+block top 18 0 22 14
+net a sig
+pin a 4 9 6 11 top top
+pin a 34 9 36 11 top top
+end
+route a
 ";
 
 const CLOSE: &str = "board 1 demo 40 20
@@ -82,15 +93,53 @@ fn first_lines(alloc: Global, text: &str, count: usize) -> Result<String, Fail> 
     Ok(first)
 }
 
-fn words_of(alloc: Global, words: &[&str]) -> Result<Vec<String>, Fail> {
+/// Runs the program over these streams.
+fn ended(
+    alloc: Global,
+    words: &[&str],
+    source: &mut MemSource,
+    out: &mut MemSink,
+    err: &mut MemSink,
+) -> Result<Status, Fail> {
     let mut all = Vec::new(alloc);
     for word in words {
         all.push(String::from_str(alloc, word)?)?;
     }
-    Ok(all)
+    Ok(contour(alloc, all.as_slice(), source, out, err))
 }
 
-/// Runs the program and looks at its status, its output and its line on standard error.
+/// Runs the program over these streams and looks at its status and its line on standard error.
+pub fn expect_told(
+    rt: &(impl Abort + AllocGlobal),
+    words: &[&str],
+    source: &mut MemSource,
+    out: &mut MemSink,
+    status: Status,
+    err: &str,
+) -> Result<(), Fail> {
+    let mut told = MemSink::new(rt.alloc(), 64, 64, &[])?;
+    let ended = ended(rt.alloc(), words, source, out, &mut told)?;
+    assert_eq!(rt; ended, status, "{words:?}");
+    assert_eq!(rt; told.held.as_slice(), err.as_bytes());
+    Ok(())
+}
+
+/// Runs the program on this source and looks at its status, its output and its line on standard error.
+fn expect_from(
+    rt: &(impl Abort + AllocGlobal),
+    words: &[&str],
+    source: &mut MemSource,
+    status: Status,
+    out: &str,
+    err: &str,
+) -> Result<(), Fail> {
+    let mut output = MemSink::new(rt.alloc(), 16384, 4096, &[])?;
+    expect_told(rt, words, source, &mut output, status, err)?;
+    assert_eq!(rt; output.held.as_slice(), out.as_bytes());
+    Ok(())
+}
+
+/// Runs the program on this text and looks at its status, its output and its line on standard error.
 pub fn expect(
     rt: &(impl Abort + AllocGlobal),
     words: &[&str],
@@ -99,22 +148,8 @@ pub fn expect(
     out: &str,
     err: &str,
 ) -> Result<(), Fail> {
-    let alloc = rt.alloc();
-    let mut source = MemSource::new(alloc, text.as_bytes(), 4096, &[])?;
-    let mut output = MemSink::new(alloc, 4096, 4096, &[])?;
-    let mut errors = MemSink::new(alloc, 4096, 4096, &[])?;
-    let words = words_of(alloc, words)?;
-    let ended = contour(
-        alloc,
-        words.as_slice(),
-        &mut source,
-        &mut output,
-        &mut errors,
-    );
-    assert_eq!(rt; ended, status, "on {text}");
-    assert_eq!(rt; output.held.as_slice(), out.as_bytes(), "on {text}");
-    assert_eq!(rt; errors.held.as_slice(), err.as_bytes(), "on {text}");
-    Ok(())
+    let mut source = MemSource::new(rt.alloc(), text.as_bytes(), 4096, &[])?;
+    expect_from(rt, words, &mut source, status, out, err)
 }
 
 #[test]
@@ -190,7 +225,7 @@ fn a_refused_text_is_named_by_its_line(rt: HostRuntime) -> Result<(), Fail> {
 
 #[test]
 fn other_words_are_refused(rt: HostRuntime) -> Result<(), Fail> {
-    let rows: [&[&str]; 17] = [
+    let rows: [&[&str]; 20] = [
         &[],
         &["go"],
         &["run", "run"],
@@ -203,6 +238,9 @@ fn other_words_are_refused(rt: HostRuntime) -> Result<(), Fail> {
         &["gen", "5", "5"],
         &["check", "x"],
         &["demo"],
+        &["demo", "0"],
+        &["demo", "007"],
+        &["demo", "2001"],
         &["gen", "0"],
         &["gen", "007"],
         &["gen", "2001"],
@@ -217,50 +255,50 @@ fn other_words_are_refused(rt: HostRuntime) -> Result<(), Fail> {
 
 #[test]
 fn a_failed_read_ends_the_call(rt: HostRuntime) -> Result<(), Fail> {
-    let alloc = rt.alloc();
-    let words = words_of(alloc, &["run"])?;
-    for k in 1..100 {
-        let mut source = MemSource::new(alloc, CLOSE.as_bytes(), 16, &[k])?;
-        let mut out = MemSink::new(alloc, 4096, 4096, &[])?;
-        let mut err = MemSink::new(alloc, 4096, 4096, &[])?;
-        let status = contour(alloc, words.as_slice(), &mut source, &mut out, &mut err);
-        if status == Status::Done {
-            assert!(rt; k > 5, "the text takes more than five reads");
-            assert_eq!(rt; out.held.as_slice(), CLOSE_REPLY.as_bytes());
-            return Ok(());
-        }
-        assert_eq!(rt; status, Status::ReadFault);
+    for k in 1..6 {
+        let mut source = MemSource::new(rt.alloc(), ROUTED.as_bytes(), 32, &[k])?;
+        let err = "read fault\n";
+        expect_from(&rt, &["run"], &mut source, Status::ReadFault, "", err)?;
         assert_eq!(rt; source.calls, k);
-        assert_eq!(rt; out.held.len(), 0);
-        assert_eq!(rt; err.held.as_slice(), b"read fault\n".as_slice());
     }
-    Err(Fail::from("no read was late enough"))
+    Ok(())
+}
+
+/// Runs the program on the text of a route, into a sink of which a call fails.
+fn expect_cut(rt: &(impl Abort + AllocGlobal), failing: u64, held: &str) -> Result<(), Fail> {
+    let mut source = MemSource::new(rt.alloc(), ROUTED.as_bytes(), 4096, &[])?;
+    let mut out = MemSink::new(rt.alloc(), 4096, 10, &[failing])?;
+    let err = "write fault\n";
+    expect_told(rt, &["run"], &mut source, &mut out, Status::WriteFault, err)?;
+    assert_eq!(rt; out.held.as_slice(), held.as_bytes());
+    Ok(())
 }
 
 #[test]
 fn a_failed_write_ends_the_call(rt: HostRuntime) -> Result<(), Fail> {
-    let alloc = rt.alloc();
-    let words = words_of(alloc, &["run"])?;
-    for k in 1..100 {
-        let mut source = MemSource::new(alloc, CLOSE.as_bytes(), 4096, &[])?;
-        let mut out = MemSink::new(alloc, 4096, 10, &[k])?;
-        let mut err = MemSink::new(alloc, 4096, 4096, &[])?;
-        let status = contour(alloc, words.as_slice(), &mut source, &mut out, &mut err);
-        if status == Status::Done {
-            assert!(rt; k > 5, "the reply takes more than five writes");
-            return Ok(());
-        }
-        assert_eq!(rt; status, Status::WriteFault);
-        assert_eq!(rt; out.calls, k);
-        assert!(rt; CLOSE_REPLY.as_bytes().starts_with(out.held.as_slice()));
-        assert_eq!(rt; err.held.as_slice(), b"write fault\n".as_slice());
-    }
-    Err(Fail::from("no write was late enough"))
+    expect_cut(&rt, 1, "")?;
+    expect_cut(&rt, 2, "route a ma")?;
+    expect_cut(&rt, 3, "route a made 1 of 1\n")
+}
+
+/// Runs the program over streams of which these calls fail, and each of standard error.
+fn expect_untold(
+    rt: &(impl Abort + AllocGlobal),
+    words: &[&str],
+    source: &mut MemSource,
+    writes: u64,
+    status: Status,
+) -> Result<(), Fail> {
+    let mut out = MemSink::new(rt.alloc(), 4096, 4096, &[writes])?;
+    let mut err = MemSink::new(rt.alloc(), 64, 64, &[1])?;
+    let ended = ended(rt.alloc(), words, source, &mut out, &mut err)?;
+    assert_eq!(rt; ended, status);
+    assert_eq!(rt; err.held.len(), 0);
+    Ok(())
 }
 
 #[test]
 fn a_fault_of_err_changes_no_status(rt: HostRuntime) -> Result<(), Fail> {
-    let alloc = rt.alloc();
     for (word, text, reads, writes, status) in [
         ("go", PLAIN, 0, 0, Status::BadWords),
         ("check", PLAIN, 0, 0, Status::BadInput),
@@ -268,28 +306,17 @@ fn a_fault_of_err_changes_no_status(rt: HostRuntime) -> Result<(), Fail> {
         ("run", PLAIN, 1, 0, Status::ReadFault),
         ("run", PLAIN, 0, 1, Status::WriteFault),
     ] {
-        let words = words_of(alloc, &[word])?;
-        let mut source = MemSource::new(alloc, text.as_bytes(), 4096, &[reads])?;
-        let mut out = MemSink::new(alloc, 4096, 4096, &[writes])?;
-        let mut err = MemSink::new(alloc, 4096, 4096, &[1])?;
-        let ended = contour(alloc, words.as_slice(), &mut source, &mut out, &mut err);
-        assert_eq!(rt; ended, status);
-        assert_eq!(rt; err.held.len(), 0);
+        let mut source = MemSource::new(rt.alloc(), text.as_bytes(), 4096, &[reads])?;
+        expect_untold(&rt, &[word], &mut source, writes, status)?;
     }
     Ok(())
 }
 
 #[test]
-fn streams_in_memory_have_no_fault(rt: HostRuntime) -> Result<(), Fail> {
-    let alloc = rt.alloc();
-    let words = words_of(alloc, &["run"])?;
-    let mut source = MemSource::new(alloc, CLOSE.as_bytes(), 7, &[])?;
-    let mut out = MemSink::new(alloc, 4096, 5, &[])?;
-    let mut err = MemSink::new(alloc, 64, 5, &[])?;
-    assert!(rt; source.fails.is_empty());
-    assert!(rt; out.fails.is_empty());
-    let status = contour(alloc, words.as_slice(), &mut source, &mut out, &mut err);
-    assert_eq!(rt; status, Status::Done);
+fn small_pieces_change_nothing(rt: HostRuntime) -> Result<(), Fail> {
+    let mut source = MemSource::new(rt.alloc(), CLOSE.as_bytes(), 7, &[])?;
+    let mut out = MemSink::new(rt.alloc(), 4096, 5, &[])?;
+    expect_told(&rt, &["run"], &mut source, &mut out, Status::Done, "")?;
     assert_eq!(rt; out.held.as_slice(), CLOSE_REPLY.as_bytes());
     Ok(())
 }

@@ -1,0 +1,10 @@
+//! The summary of a demonstration: how many connections were made, of how many, what they cost
+//! together, and how many violations are left.
+//!
+//! A cost is counted in micrometres of wire.
+#![tactic(auto)]
+
+mod lines;
+mod sums;
+
+pub use lines::summary;
