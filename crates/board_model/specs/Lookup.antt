@@ -39,8 +39,20 @@ layers_from first last = map layer_at (range_with_len first.0 (last.0 + 1 - firs
 -- a board of this name and size on which nothing stands yet
 abbrev pub empty_parts : List ℕ → ℤ → ℤ → BoardParts
 empty_parts title width height = record {
-  name = title; width = width; height = height; layers = []; classes = []; rules = []; kind_names = []; kinds = []; pads = [];
-  blocks = []; net_names = []; net_classes = []; pins = [] }
+  name = title;
+  width = width;
+  height = height;
+  layers = [];
+  classes = [];
+  rules = [];
+  kind_names = [];
+  kinds = [];
+  pads = [];
+  blocks = [];
+  net_names = [];
+  net_classes = [];
+  pins = [];
+}
 
 -- the name of a layer (for ids that the board lacks: no bytes), and so on
 abbrev pub layer_name : BoardParts → LayerId → List ℕ

@@ -24,7 +24,7 @@ use Rattle.strip_moves.specs.Listed.IsMoveFrom.{by_edge, by_via}
 use Rattle.cert_check.specs.Fronts.{HasBoundedFront}
 use Rattle.cert_check.specs.Stages.{HasCoveredStarts, HasCoveredMoves}
 use Rattle.cert_check.proofs.Meets.{three_third}
-use Rattle.cert_check.proofs.OnBoard.{part_bounded, wire_strip_bounded}
+use Rattle.strip_moves.proofs.Bounded.{part_bounded, wire_strip_bounded}
 
 edge_front : (g : Ground) (a b : Arrival) (p : Point) → IsEdgeMove g a b → HasPoint b.front p → HasPoint b.strip p
 edge_front g a b p m h = m.is_edge.in_u p (clamped_point a.front m.edge b.front p m.moved.clamped h)

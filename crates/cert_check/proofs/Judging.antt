@@ -11,6 +11,7 @@ use Rattle.route_law.specs.Ground.{Ground, IsGround}
 use Rattle.route_law.specs.Right.{IsBoundOf, IsRight}
 use Rattle.route_law.specs.Walks.{IsLowerBound, HasNoJoiningWalk}
 use Rattle.route_law.proofs.Law.{bounds_each_walk, leaves_no_walk}
+use Rattle.route_law.proofs.Numbered.{listed_numbered, numbered_listed}
 use Rattle.cert_check.specs.declared.verdicts.Verdict.{Verdict}
 use Rattle.cert_check.specs.declared.verdicts.Verdict.TheVariants.{Yes, No}
 use Rattle.cert_check.specs.declared.verdicts.Why.{Why}
@@ -19,7 +20,6 @@ use Rattle.cert_check.specs.Searches.{IsFirst, IsSearched}
 use Rattle.cert_check.specs.Stages.{Placed, Founded, Started, Followed, ArePlaced, AreFounded, IsClosed}
 use Rattle.cert_check.specs.Verdicts.{IsMatch, IsFault, IsGood, IsVerdict}
 use Rattle.route_law.specs.Joins.{IsLeastConnection}
-use Rattle.cert_check.proofs.Numbered.{listed_numbered, numbered_listed}
 
 pub searched_none : {A : Type 0} (IsWanted : ℕ → A → Type 0) (items : List A) (o : Option ℕ) → o ≡ None → IsSearched IsWanted items o → EachAt IsWanted items
 searched_none IsWanted items o e h = let P : Option ℕ → Type 0 = λ p. IsSearched IsWanted items p in subst P e h

@@ -1,8 +1,6 @@
 -- The least number of a property, of two properties, and of the ends of entries.
-use Rattle.std.proofs.Common.{◌≡◌, ℕ, ◌+◌, ◌<◌, ◌≤◌, ◌⊎◌, inl, inr, min, List, ◌∷◌, ◌++◌, [], Contains, Option, Some, None, length, get_or, take, refl, sym, ap, subst, ◌∙◌, arith}
+use Rattle.std.proofs.Common.{◌≡◌, ℕ, ◌+◌, ◌<◌, ◌≤◌, ◌⊎◌, inl, inr, min, List, Contains, Option, Some, None, length, get_or, take, refl, sym, ap, subst, arith}
 use Rattle.std.proofs.lemmas.Bool.{cases_lt}
-use Rattle.std.proofs.lemmas.List.{take_more}
-use Rattle.std.proofs.lemmas.List.Elements.{Contains-push, Contains-push_cases, Contains-append_left}
 use Rattle.geo_rect.specs.declared.ids.Spot.{Spot}
 use Rattle.geo_rect.specs.declared.shapes.Rect.{Rect}
 use Rattle.geo_rect.specs.Distance.{IsDistance}
@@ -11,6 +9,7 @@ use Rattle.geo_rect.proofs.Distances.{find_distance, distance_one}
 use Rattle.route_law.specs.declared.certs.Entry.{Entry}
 use Rattle.route_law.specs.Right.{IsEnd, HasNoEnd, IsBoundOf}
 use Rattle.route_law.proofs.Doors.{find_meet}
+use Rattle.route_law.proofs.Numbered.{taken_before, taken_last, taken_cases}
 use Rattle.cert_check.specs.Bounds.{IsLeast, IsLeastOf, lesser_of, IsEndAt, IsSomeEnd}
 use Rattle.cert_check.proofs.Meets.{meet_one, meet_not_apart}
 
@@ -53,19 +52,6 @@ least_of_one P None None p q = refl
 least_of_one P None (Some n) p q = absurd (p n q.there)
 least_of_one P (Some m) None p q = absurd (q m p.there)
 least_of_one P (Some m) (Some n) p q = let h = p.least n q.there in let k = q.least m p.there in let i : m ≡ n = omega arith in ap Some i
-
--- the first items and one more
-take_one_more : {A : Type 0} (xs : List A) (i : ℕ) (x : A) → i < length xs → x ≡ get_or xs i x → take (i + 1) xs ≡ take i xs ++ x ∷ []
-take_one_more xs i x l e = take_more xs i x l ∙ ap (λ y. take i xs ++ y ∷ []) (sym e)
-
-pub taken_before : {A : Type 0} (xs : List A) (i : ℕ) (x y : A) → i < length xs → x ≡ get_or xs i x → Contains (take i xs) y → Contains (take (i + 1) xs) y
-taken_before {A} xs i x y l e h = let P : List A → Type 0 = λ ys. Contains ys y in subst P (sym (take_one_more xs i x l e)) (Contains-append_left (take i xs) (x ∷ []) y h)
-
-pub taken_last : {A : Type 0} (xs : List A) (i : ℕ) (x : A) → i < length xs → x ≡ get_or xs i x → Contains (take (i + 1) xs) x
-taken_last {A} xs i x l e = let P : List A → Type 0 = λ ys. Contains ys x in subst P (sym (take_one_more xs i x l e)) (Contains-push (take i xs) x)
-
-pub taken_cases : {A : Type 0} (xs : List A) (i : ℕ) (x y : A) → i < length xs → x ≡ get_or xs i x → Contains (take (i + 1) xs) y → Contains (take i xs) y ⊎ (x ≡ y)
-taken_cases {A} xs i x y l e h = let P : List A → Type 0 = λ ys. Contains ys y in Contains-push_cases (take i xs) x y (subst P (take_one_more xs i x l e) h)
 
 end_at_box : (targets : List Spot) (box : Spot) (e : Entry) (n : ℕ) → Contains targets box → IsEndAt box e n → IsEnd targets e n
 end_at_box targets box e n c h = record {

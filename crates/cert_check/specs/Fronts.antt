@@ -36,10 +36,6 @@ pub record IsBoundedEntry (e : Entry) : Type 0 where
 abbrev pub HasBoundedFront : Entry → Type 0
 HasBoundedFront e = IsBounded e.front
 
--- the coordinates of the box lie between -2^25 and 2^25
-abbrev pub HasBoundedArea : Spot → Type 0
-HasBoundedArea box = IsBounded box.area
-
 -- the entry's cost leaves room for sums
 abbrev pub HasSmallCost : Entry → Type 0
 HasSmallCost e = e.cost < 2 ^ 96

@@ -2,7 +2,7 @@
 ghost use Rattle.std.specs.Prelude.{◌≡◌, ◌↔◌, All, IsTrue};
 ghost use Rattle.route_law.specs.Right.{IsEnd, IsBoundOf};
 ghost use Rattle.cert_check.specs.Bounds.{IsLeastOf, IsEndAt, IsSomeEnd, lesser_of};
-ghost use Rattle.cert_check.specs.Fronts.{IsBoundedEntry, HasBoundedArea, HasSmallCost};
+ghost use Rattle.cert_check.specs.Fronts.{IsBoundedEntry, HasSmallCost};
 
 use geo_rect::{Spot, dist, meet};
 use route_law::{Cert, Entry};

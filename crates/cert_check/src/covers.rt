@@ -5,7 +5,8 @@ ghost use Rattle.geo_rect.specs.Plane.{IsBounded};
 ghost use Rattle.route_law.specs.declared.certs.Entry.{Entry as Item};
 ghost use Rattle.route_law.specs.Covers.{IsReachedBefore, IsTooLate, IsCovered};
 ghost use Rattle.route_law.specs.Moves.{arrival_of};
-ghost use Rattle.cert_check.specs.Fronts.{HasBoundedFront, HasBoundedArea};
+ghost use Rattle.strip_moves.specs.Boxes.{HasBoundedArea};
+ghost use Rattle.cert_check.specs.Fronts.{HasBoundedFront};
 
 use crate::fronts::{comes_before, is_far_from};
 use geo_rect::Spot;

@@ -3,8 +3,8 @@ ghost use Rattle.std.specs.Prelude.{◌+◌, ◌^◌, ◌<◌, ◌↔◌, length
 ghost use Rattle.plane_set.specs.Standing.{HasPlanes};
 ghost use Rattle.route_law.specs.Right.{IsWellPlaced};
 ghost use Rattle.strip_moves.specs.Grounds.{ground_of};
-ghost use Rattle.strip_moves.specs.Boxes.{IsBoardBox};
-ghost use Rattle.cert_check.specs.Fronts.{HasBoundedFront, HasBoundedArea};
+ghost use Rattle.strip_moves.specs.Boxes.{IsBoardBox, HasBoundedArea};
+ghost use Rattle.cert_check.specs.Fronts.{HasBoundedFront};
 ghost use Rattle.cert_check.specs.Stages.{HasCoveredStarts, HasCoveredMoves};
 
 use crate::covers::are_covered;

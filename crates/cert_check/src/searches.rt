@@ -2,8 +2,8 @@
 ghost use Rattle.std.specs.Prelude.{◌<◌, length, All, IfOk, IfNone};
 ghost use Rattle.plane_set.specs.Standing.{HasPlanes};
 ghost use Rattle.strip_moves.specs.Grounds.{ground_of};
-ghost use Rattle.strip_moves.specs.Boxes.{IsBoardBox};
-ghost use Rattle.cert_check.specs.Fronts.{HasBoundedFront, HasBoundedArea, HasSmallCost};
+ghost use Rattle.strip_moves.specs.Boxes.{IsBoardBox, HasBoundedArea};
+ghost use Rattle.cert_check.specs.Fronts.{HasBoundedFront, HasSmallCost};
 ghost use Rattle.cert_check.specs.Searches.{IsSearched};
 ghost use Rattle.cert_check.specs.Stages.{Placed, Founded, Started, Followed, ArePlaced};
 

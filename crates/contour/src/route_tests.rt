@@ -25,7 +25,8 @@ const FOUND: &str =
 2 10|layer top;layer bot;class sig;rule top sig 1 2;viakind v top bot 6;pad v sig 1;rule bot sig 1 2;block top 18 0 22 14;net a sig;pin a 4 9 6 11 top top;pin a 34 9 36 11 top top;end;route a;|conn 1 40 ;cert 40 
 2 10|layer top;layer bot;class sig;rule top sig 1 2;viakind v top bot 7;pad v sig 1;rule bot sig 1 2;block top 18 0 22 14;net a sig;pin a 4 9 6 11 top top;pin a 34 9 36 11 top top;end;route a;|conn 1 40 ;cert 40 
 2 10|layer top;layer bot;class sig;rule top sig 1 2;rule bot sig 1 2;viakind v top bot 5;pad v sig 2;block bot 5 8 14 12;net a sig;pin a 10 10 10 10 top top;pin a 17 10 17 10 bot bot;end;route a;|conn 1 14 3;to 18 10 top;via v 18 10 bot;to 17 10 bot;cert 14 
-5 10|block top 10 8 30 10;net a sig;pin a 18 3 18 3 top top;pin a 30 16 30 16 top top;end;route a;|conn 1 31 ;cert 31 ; top 1 13 39 13 ; top 1 13 39 13 
+5 10|block top 10 8 30 10;net a sig;pin a 18 3 18 3 top top;pin a 30 16 30 16 top top;end;route a;|conn 1 31 ;cert 31 ; top 1 13 39 13 
+5 10|block top 10 6 30 6;block top 0 14 30 14;net a sig;pin a 18 2 18 2 top top;pin a 20 18 20 18 top top;end;route a;|conn 1 44 ;cert 44 ; top 1 9 39 11 7 9 7 9 18; top 1 9 39 11 33 9 33 9 22
 5 10|block top 18 0 22 20;net a sig;net b sig;pin a 4 9 6 11 top top;pin a 34 9 36 11 top top;pin b 4 4 4 4 top top;pin b 10 4 10 4 top top;end;all;|all 2;route a made 0 of 1;none 1;cert - ;route b made 1 of 1;conn 1 6 1;cert 6 
 1 10|board 1 big 1048576 1048576;layer top;class sig;rule top sig 65535 65535;net a sig;pin a 65535 65535 65535 65535 top top;pin a 983041 983041 983041 983041 top top;end;route a;|conn 1 1835012 ;cert 1835012 ";
 

@@ -1,7 +1,6 @@
 -- The bound of a right certificate is reached: each entry keeps its promise, by induction on its number.
-use Rattle.std.proofs.Common.{ℕ, zero, suc, ◌≡◌, ◌+◌, ◌<◌, refl, sym, subst, List, [], ◌∷◌, length, Contains, Option, Some, None, IfSome, slice_get, arith}
+use Rattle.std.proofs.Common.{ℕ, zero, suc, ◌≡◌, ◌+◌, ◌<◌, refl, sym, subst, List, [], ◌∷◌, Contains, Option, Some, None, IfSome, slice_get, arith}
 use Rattle.std.proofs.lemmas.List.Sums.{sum_by-cons}
-use Rattle.std.proofs.lemmas.Option.{slice_get_read, slice_get_within, get_or_from_slice_get}
 use Rattle.geo_rect.specs.declared.ids.KindId.{KindId}
 use Rattle.geo_rect.specs.declared.ids.LayerId.{LayerId}
 use Rattle.geo_rect.specs.declared.ids.Node.{Node}
@@ -24,14 +23,9 @@ use Rattle.route_law.specs.Right.{IsFromSource, IsFrom, IsLeastEnd, IsBoundOf, I
 use Rattle.route_law.specs.Walks.{IsViaStep, price_of, HasNode, IsJoiningWalk, IsLowerBound, IsLeastCost}
 use Rattle.route_law.proofs.Before.{one_step_before}
 use Rattle.route_law.proofs.Law.{bounds_each_walk}
+use Rattle.route_law.proofs.Numbered.{numbered_listed, listed_numbered}
 use Rattle.route_law.proofs.Passed.{node_at, strip_passable, via_strip_passable, one_wire_strip}
 use Rattle.route_law.proofs.Ways.{IsReachable, IsWay, go_on, strip_way}
-
-listed_at : {A : Type 0} (xs : List A) (n : ℕ) (x : A) → slice_get xs n ≡ Some x → Contains xs x
-listed_at xs n x e = (n, slice_get_within xs n x e, get_or_from_slice_get xs n x x e)
-
-place_in : {A : Type 0} (xs : List A) (x : A) → Contains xs x → (n : ℕ) × (slice_get xs n ≡ Some x)
-place_in xs x (n, h, e) = (n, slice_get_read xs (length xs) n x refl h (sym e))
 
 module _ (g : Ground) (sources targets : List Spot) (cert : Cert) (ground : IsGround g) (right : IsRight g sources targets cert) where
   -- each point of the entry's front is reached at the entry's cost
@@ -61,7 +55,7 @@ module _ (g : Ground) (sources targets : List Spot) (cert : Cert) (ground : IsGr
       record {
         start = v;
         steps = [];
-        starts = record { box = s.box; listed = listed_at sources j s.box s.numbered; same_layer = sym s.start.same_layer; has_point = s.start.common.second p h };
+        starts = record { box = s.box; listed = numbered_listed sources j s.box s.numbered; same_layer = sym s.start.same_layer; has_point = s.start.common.second p h };
         walk = strip_passable g e.layer e.strip p ground s.start.passable inside;
         ends = refl;
         cost = omega arith;
@@ -124,18 +118,18 @@ module _ (g : Ground) (sources targets : List Spot) (cert : Cert) (ground : IsGr
   kept_by : (n : ℕ) (e : Entry) (o : Origin) → AreKeptBelow n → Contains cert.entries e → IsFrom g sources cert.entries n (arrival_of e) o → IsKept e
   unfolding AreKeptBelow
   kept_by n e (Source j) below h f = source_kept e j f
-  kept_by n e (Step j) below h f = step_kept f.entry e (listed_at cert.entries j f.entry f.numbered) h (below j f.entry f.earlier f.numbered) f.holds
-  kept_by n e (ByVia j k) below h f = via_kept k f.entry e (listed_at cert.entries j f.entry f.numbered) h (below j f.entry f.earlier f.numbered) f.holds
+  kept_by n e (Step j) below h f = step_kept f.entry e (numbered_listed cert.entries j f.entry f.numbered) h (below j f.entry f.earlier f.numbered) f.holds
+  kept_by n e (ByVia j k) below h f = via_kept k f.entry e (numbered_listed cert.entries j f.entry f.numbered) h (below j f.entry f.earlier f.numbered) f.holds
 
   kept_below : (n : ℕ) → AreKeptBelow n
   unfolding AreKeptBelow
   kept_below zero m e h i = absurd (omega arith)
   kept_below (suc n) m e h i =
-      kept_by m e e.origin (λ j b l k. kept_below n j b (omega (arith, h, l)) k) (listed_at cert.entries m e i) (right.founded m e i)
+      kept_by m e e.origin (λ j b l k. kept_below n j b (omega (arith, h, l)) k) (numbered_listed cert.entries m e i) (right.founded m e i)
 
   kept : (e : Entry) → Contains cert.entries e → IsKept e
   unfolding AreKeptBelow
-  kept e h = let n = place_in cert.entries e h in kept_below (suc n.0) n.0 e (omega arith) n.1
+  kept e h = let n = listed_numbered cert.entries e h in kept_below (suc n.0) n.0 e (omega arith) n.1
 
   end_reached : (d : ℕ) → IsLeastEnd targets cert.entries d → IsLowerBound g sources targets d → IsLeastCost g sources targets d
   unfolding IsKept

@@ -8,6 +8,8 @@ pub mod Doors
 pub mod Ends
 pub mod Joining
 pub mod Law
+pub mod Lows
+pub mod Numbered
 pub mod OnBoards
 pub mod Passed
 pub mod Running

@@ -1,8 +1,11 @@
 //! The laws of certificates. The functions do nothing: their contracts are the laws.
-ghost use Rattle.std.specs.Prelude.{List, IfSome, IfNone};
+ghost use Rattle.std.specs.Prelude.{ℕ, ◌+◌, ◌≤◌, List, IfSome, IfNone};
 ghost use Rattle.geo_rect.specs.declared.ids.Spot.{Spot};
+ghost use Rattle.geo_rect.specs.declared.shapes.Rect.{Rect};
 ghost use Rattle.route_law.specs.declared.certs.Cert.{Cert};
+ghost use Rattle.route_law.specs.Covers.{IsLow};
 ghost use Rattle.route_law.specs.Ground.{Ground, IsGround};
+ghost use Rattle.route_law.specs.Moves.{IsMovedFront};
 ghost use Rattle.route_law.specs.Right.{IsRight};
 ghost use Rattle.route_law.specs.Walks.{IsLowerBound, HasNoJoiningWalk, IsLeastCost};
 
@@ -20,4 +23,11 @@ pub fn a_right_certificate_bounds_every_walk()
 pub fn the_bound_of_a_right_certificate_is_reached()
     ensures { (g : Ground) (sources targets : List Spot) (cert : Cert) → IsGround g → IsRight g sources targets cert
         → IfSome cert.bound (λ d. IsLeastCost g sources targets d) }
+{}
+
+/// A front that moves on comes nearer to the target boxes by no more than its way. So its cost and the
+/// least distance to a target box, taken together, never fall along a move.
+pub fn a_move_is_no_shortcut()
+    ensures { (targets : List Spot) (front door moved : Rect) (way m n : ℕ) → IsMovedFront front door moved way
+        → IsLow targets front m → IsLow targets moved n → m ≤ way + n }
 {}

@@ -15,7 +15,8 @@ mod walks;
 pub use boards::a_ground_is_passable_where_its_board_is;
 pub use certs::{Cert, Entry, Origin};
 pub use laws::{
-    a_right_certificate_bounds_every_walk, the_bound_of_a_right_certificate_is_reached,
+    a_move_is_no_shortcut, a_right_certificate_bounds_every_walk,
+    the_bound_of_a_right_certificate_is_reached,
 };
 pub use moves::{
     edge_moves_go_to_each_strip_beside, moves_are_determined_by_where_they_go,

@@ -1,7 +1,8 @@
 -- The boxes from which a net's next connection may start lie on the board.
-use Rattle.std.proofs.Common.{◌<◌, ◌≤◌, ℕ, pos, ◌+◌, ◌-◌, List, [], ◌∷◌, length, map, take, All, subst, arith}
+use Rattle.std.proofs.Common.{◌<◌, ◌≤◌, ℕ, pos, ◌+◌, ◌-◌, List, [], ◌∷◌, Option, length, map, take, All, inl, inr, sym, subst, arith}
 use Rattle.std.specs.List.{flat_map}
 use Rattle.std.proofs.lemmas.List.Elements.{All-nil, All-cons, All-append, All-map, All-weaker, All-filter, All-take, All-get_or}
+use Rattle.std.proofs.lemmas.Option.{slice_get_cases}
 use Rattle.geo_rect.specs.declared.ids.LayerId.{LayerId}
 use Rattle.geo_rect.specs.declared.ids.NetId.{NetId}
 use Rattle.geo_rect.specs.declared.ids.Node.{Node}
@@ -13,7 +14,7 @@ use Rattle.board_model.specs.declared.made.Leg.TheVariants.{Wire, Via}
 use Rattle.board_model.specs.declared.parts.BoardParts.{BoardParts}
 use Rattle.board_model.specs.declared.parts.Pin.{Pin}
 use Rattle.board_model.specs.declared.shapes.Shape.{Shape}
-use Rattle.board_model.specs.Boxes.{spot_on, pin_boxes, leg_boxes, legs_boxes, corner_boxes, conn_boxes, source_boxes}
+use Rattle.board_model.specs.Boxes.{spot_on, pin_boxes, leg_boxes, legs_boxes, corner_boxes, conn_boxes, boxes_of_some, source_boxes, target_boxes}
 use Rattle.board_model.specs.Lookup.{kind_of, layer_at, layers_from, pins_of}
 use Rattle.board_model.specs.Made.{conns_of}
 use Rattle.board_model.specs.Rules.{IsBoard, IsOnBoard, IsPin}
@@ -55,6 +56,16 @@ sources_within b lists n board l h =
     All-append (IsBoardBox b) (flat_map pin_boxes (take k (pins_of b n))) (flat_map (conn_boxes b) (conns_of lists n))
     (All-flat_map (IsBoardBox b) pin_boxes (take k (pins_of b n)) (All-weaker (IsPin b) (λ p. All (IsBoardBox b) (pin_boxes p)) (pin_within b) _ (All-take (IsPin b) k (pins_of b n) (pins_within b n board))))
     (All-flat_map (IsBoardBox b) (conn_boxes b) (conns_of lists n) (All-get_or (All (IsWithin b)) lists n.0 [] l h))
+
+-- so does the box in which it may end
+pub targets_within : (b : BoardParts) (n : NetId) (j : ℕ) → IsBoard b → j < length (pins_of b n) → All (IsBoardBox b) (target_boxes b n j)
+targets_within b n j board l = elim ((slice_get_cases (pins_of b n) j).1) [
+  | inl h ↦
+      let is : IsPin b h.0 = subst (IsPin b) h.3 (All-get_or (IsPin b) (pins_of b n) j h.0 l (pins_within b n board)) in
+      let P : Option Pin → Type 0 = λ o. All (IsBoardBox b) (boxes_of_some o) in
+      subst P (sym h.2) (pin_within b h.0 is)
+  | inr h ↦ (let past = h.0 in absurd (omega arith))
+]
 
 module _ (b : BoardParts) (board : IsBoard b) (shapes : List Shape) (n : NetId) (g : Ground) (of : IsGroundOf b shapes n g) where
   -- a node that the net may pass is on the board

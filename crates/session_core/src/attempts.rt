@@ -57,7 +57,7 @@ pub fn next_of<P: Plane>(
 }
 
 /// Searches for a cheapest walk of the net from a source box to a target box, as its connection of
-/// this number. The source boxes lie on the board, and there is a target box.
+/// this number. The source boxes and the target boxes lie on the board, and there is a target box.
 fn join<P: Plane>(
     alloc: Global,
     board: &Board,
@@ -71,6 +71,7 @@ fn join<P: Plane>(
     requires net { net.0 < length board.now.parts.net_names }
     requires sources { All (IsBoardBox board.now.parts) sources.now }
     requires target { 0 < length targets.now }
+    requires targets { All (IsBoardBox board.now.parts) targets.now }
     ensures { IfOk result (IsAttemptOn board.now.parts (ground_of board.now.parts planes.now net) sources.now targets.now number) }
 {
     match search(alloc, board, planes, net, sources, targets)? {

@@ -25,7 +25,7 @@ same_point p q e f =
     subst P e (ap (λ (w : ℤ). let r : Point = record { x = p.x; y = w } in r) f)
 
 -- a side turned twice is where it was
-turned_twice : (side : Side) (q : Point) → turned_point side (turned_point side q) ≡ q
+pub turned_twice : (side : Side) (q : Point) → turned_point side (turned_point side q) ≡ q
 turned_twice Left q = refl
 turned_twice Below q = refl
 turned_twice Right q = same_point _ q (omega (arith, ints)) (omega (arith, ints))
@@ -54,6 +54,11 @@ stitch_follows Below r = refl
 stitch_follows Right r = same_point _ _ (omega (arith, ints)) (omega (arith, ints))
 stitch_follows Above r = same_point _ _ (omega (arith, ints)) (omega (arith, ints))
 
+-- a stitch that leads to the tile of a point leads to it when both are turned
+pub leads_turned : (s : Store) (domain : Rect) (side : Side) (p : Point) (o : Option TileId) → LeadsTo s domain p o → LeadsToTurned s domain side (turned_point side p) o
+leads_turned s domain side p None h = λ k. h ((points_turn side domain p).1 k)
+leads_turned s domain side p (Some id) h = record { tile = h.tile; is_there = h.is_there; has_point = (points_turn side h.tile.area p).0 h.has_point }
+
 module _ (s : Store) (domain : Rect) (is : IsLinked s domain) (side : Side) where
   holds_back : (id : TileId) (q : Point) → HoldsTurned s side id q → Holds s id (turned_point side q)
   holds_back id q h = record { tile = h.tile; is_there = h.is_there; has_point = turned_back side h.tile.area q h.has_point }
@@ -70,21 +75,17 @@ module _ (s : Store) (domain : Rect) (is : IsLinked s domain) (side : Side) wher
       ((points_turn side domain (turned_point side q)).0
       ((lies_in_points t.area domain).0 (is.inside id t e) (turned_point side q) (turned_back side t.area q h)))
 
-  leads_turned : (p : Point) (o : Option TileId) → LeadsTo s domain p o → LeadsToTurned s domain side (turned_point side p) o
-  leads_turned p None h = λ k. h ((points_turn side domain p).1 k)
-  leads_turned p (Some id) h = record { tile = h.tile; is_there = h.is_there; has_point = (points_turn side h.tile.area p).0 h.has_point }
-
   -- the stitch on the side leads to the tile left of the lowest row
   pub first_leads : (id : TileId) (t : Tile) → tile_at s id ≡ Some t → LeadsToTurned s domain side (left_of side t.area (turned side t.area).y0) (stitch side t)
   first_leads id t e =
       let P : Point → Type 0 = λ z. LeadsToTurned s domain side z (stitch side t) in
-      subst P (stitch_starts side t.area) (leads_turned (stitch_point side t.area) (stitch side t) (is.stitched side id t e))
+      subst P (stitch_starts side t.area) (leads_turned s domain side (stitch_point side t.area) (stitch side t) (is.stitched side id t e))
 
   -- the following stitch leads to the tile above the last column
   pub next_leads : (id : TileId) (t : Tile) → tile_at s id ≡ Some t → LeadsToTurned s domain side (over side t.area) (stitch (following side) t)
   next_leads id t e =
       let P : Point → Type 0 = λ z. LeadsToTurned s domain side z (stitch (following side) t) in
-      subst P (stitch_follows side t.area) (leads_turned (stitch_point (following side) t.area) (stitch (following side) t) (is.stitched (following side) id t e))
+      subst P (stitch_follows side t.area) (leads_turned s domain side (stitch_point (following side) t.area) (stitch (following side) t) (is.stitched (following side) id t e))
 
   -- a tile that has a point left of another tile's row ends in that column
   pub ends_left : (i j : TileId) (t u : Tile) (y : ℤ) → tile_at s i ≡ Some t → tile_at s j ≡ Some u → HasNumber (rows (turned side t.area)) y → HasPoint (turned side u.area) (left_of side t.area y) → (turned side u.area).x1 ≡ (turned side t.area).x0 -ℤ pos 1

@@ -1,5 +1,5 @@
 -- The pieces of a linked tiling: what stands under its numbers, stitches left out.
-use Rattle.std.proofs.Common.{◌≡◌, Some, None, refl, sym, subst, ap, ◌∙◌}
+use Rattle.std.proofs.Common.{◌≡◌, Some, None, refl, sym, subst, ap}
 use Rattle.std.specs.declared.option.Option.{Option}
 use Rattle.geo_rect.specs.declared.shapes.Point.{Point}
 use Rattle.geo_rect.specs.declared.shapes.Rect.{Rect}
@@ -9,7 +9,7 @@ use Rattle.tile_store.specs.declared.tiles.Tile.{Tile}
 use Rattle.tile_store.specs.declared.tiles.TileId.{TileId}
 use Rattle.tile_store.specs.Store.{Store, tile_at}
 use Rattle.stitch_walk.specs.Links.{Holds, IsTiling}
-use Rattle.stitch_walk.specs.Pieces.{piece_of, piece_at, IsPiece, IsOfPiece, FillDomain}
+use Rattle.stitch_walk.specs.Pieces.{piece_of, IsPiece, IsOfPiece, FillDomain}
 
 -- a tile of this area and this label
 pub record IsTileOf (o : Option Tile) (p : Strip) : Type 0 where

@@ -117,7 +117,8 @@ not_empty s domain is none =
     let held = is.linked.covered (corner domain) (has_corner domain) in
     some_is_not_none held.holds.tile (sym held.holds.is_there ∙ none held.by)
 
-small_along : (i j : Interval) → LiesWithin i j → IsWithinReach j → IsWithinReach i
+-- an interval within reach has those in it within reach
+pub small_along : (i j : Interval) → LiesWithin i j → IsWithinReach j → IsWithinReach i
 small_along i j w r =
     let a = w.from in
     let b = w.to in

@@ -14,4 +14,5 @@ mod walks;
 
 pub use ids::Ids;
 pub use laws::tiles_fill_the_domain;
+pub use sides::{following, has_point, stitch};
 pub use tilings::Tiling;

@@ -15,10 +15,10 @@ use Rattle.route_law.specs.declared.certs.Origin.{Origin}
 use Rattle.strip_moves.specs.Departures.{IsOnLargestBoard, IsOpen}
 use Rattle.strip_moves.specs.Grounds.{board_area}
 
-abbrev first : Rect → Point
+abbrev pub first : Rect → Point
 first r = record { x = r.x0; y = r.y0 }
 
-has_first : (r : Rect) → HasPoint r (first r)
+pub has_first : (r : Rect) → HasPoint r (first r)
 has_first r = record { across = low_in (columns r); up = low_in (rows r) }
 
 near : (x y : ℤ) → pos 0 ≤ℤ x → x ≤ℤ pos (2 ^ 20) → pos 0 ≤ℤ y → y ≤ℤ pos (2 ^ 20) → between x y ≤ 2 ^ 20

@@ -1,7 +1,9 @@
 pub mod AllMoves
 pub mod Away
 pub mod Boards
+pub mod Bounded
 pub mod ByVias
+pub mod Costs
 pub mod Found
 pub mod Gains
 pub mod Grounds

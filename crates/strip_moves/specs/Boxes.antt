@@ -1,6 +1,7 @@
 -- Boxes on a board.
 use Rattle.std.specs.Prelude.{◌<◌, length}
 use Rattle.geo_rect.specs.declared.ids.Spot.{Spot}
+use Rattle.geo_rect.specs.Plane.{IsBounded}
 use Rattle.board_model.specs.declared.parts.BoardParts.{BoardParts}
 use Rattle.board_model.specs.Rules.{IsOnBoard}
 
@@ -8,3 +9,7 @@ use Rattle.board_model.specs.Rules.{IsOnBoard}
 pub record IsBoardBox (b : BoardParts) (box : Spot) : Type 0 where
   pub layer : box.layer.0 < length b.layers
   pub area : IsOnBoard b.width b.height box.area
+
+-- the coordinates of the box lie between -2^25 and 2^25
+abbrev pub HasBoundedArea : Spot → Type 0
+HasBoundedArea box = IsBounded box.area

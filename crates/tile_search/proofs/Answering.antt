@@ -12,8 +12,9 @@ use Rattle.route_law.proofs.Law.{leaves_no_walk}
 use Rattle.tile_search.specs.declared.answers.Found.{Found}
 use Rattle.tile_search.specs.declared.answers.Found.TheVariants.{Path, NoRoute}
 use Rattle.tile_search.specs.declared.goals.Goal.{Goal}
-use Rattle.tile_search.specs.Answers.{HasRightPath, IsPathEnd, HasPathEnd, HasLeastCost, HasRightRefusal, HasEachFrontOnce, IsNoRoute, IsPathTo, IsAnswerOf}
+use Rattle.tile_search.specs.Answers.{HasRightPath, IsPathEnd, HasPathEnd, HasLeastCost, HasRightRefusal, HasEachFrontOnce, HasGoalOrder, IsNoRoute, IsPathTo, IsAnswerOf}
 use Rattle.tile_search.specs.Goals.{IsGoalAmong, IsLeastGoal}
+use Rattle.tile_search.specs.Keys.{IsGoalOrdered, IsOrderedToBest}
 use Rattle.tile_search.specs.Once.{AreSettledOnce}
 use Rattle.tile_search.specs.Underway.{cert_of}
 
@@ -47,11 +48,24 @@ module _ (targets : List Spot) (entries : List Entry) where
   path_end (Some goal) (NoRoute cert) a l = absurd a
   path_end (Some goal) (Path cost entry end cert) a l = end_same goal cost entry end cert a (end_of goal l.there)
 
-pub each_once : (entries : List Entry) (best : Option Goal) (found : Found) → IsAnswerOf entries best found → AreSettledOnce entries → HasEachFrontOnce found
-each_once entries None (NoRoute cert) a o = subst AreSettledOnce (sym (ap (λ (x : Cert). x.entries) a)) o
-each_once entries None (Path cost entry end cert) a o = absurd a
-each_once entries (Some goal) (NoRoute cert) a o = absurd a
-each_once entries (Some goal) (Path cost entry end cert) a o = subst AreSettledOnce (sym (ap (λ (x : Cert). x.entries) a.same_cert)) o
+  pub each_once : (best : Option Goal) (found : Found) → IsAnswerOf entries best found → AreSettledOnce targets entries → HasEachFrontOnce targets found
+  each_once None (NoRoute cert) a o = subst (AreSettledOnce targets) (sym (ap (λ (x : Cert). x.entries) a)) o
+  each_once None (Path cost entry end cert) a o = absurd a
+  each_once (Some goal) (NoRoute cert) a o = absurd a
+  each_once (Some goal) (Path cost entry end cert) a o = subst (AreSettledOnce targets) (sym (ap (λ (x : Cert). x.entries) a.same_cert)) o
+
+  order_same : (goal : Goal) (cost n : ℕ) (v : Node) (cert : Cert) → IsPathTo goal (cert_of entries (Some goal)) cost n v cert → IsGoalOrdered targets entries goal.cost → IsGoalOrdered targets cert.entries cost
+  order_same goal cost n v cert s h =
+      let P : ℕ → Type 0 = λ d. IsGoalOrdered targets entries d in
+      let Q : List Entry → Type 0 = λ es. IsGoalOrdered targets es cost in
+      let es : cert.entries ≡ entries = ap (λ (x : Cert). x.entries) s.same_cert in
+      subst Q (sym es) (subst P (sym s.same_cost) h)
+
+  pub goal_order : (best : Option Goal) (found : Found) → IsAnswerOf entries best found → IsOrderedToBest targets entries best → HasGoalOrder targets found
+  goal_order None (NoRoute cert) a o = tt
+  goal_order None (Path cost entry end cert) a o = absurd a
+  goal_order (Some goal) (NoRoute cert) a o = absurd a
+  goal_order (Some goal) (Path cost entry end cert) a o = order_same goal cost entry end cert a o
 
 module _ (g : Ground) (sources targets : List Spot) (entries : List Entry) where
   pub right_path : (best : Option Goal) (found : Found) → IsAnswerOf entries best found → IsRight g sources targets (cert_of entries best) → HasRightPath g sources targets found

@@ -1,7 +1,6 @@
 -- The goals to which an entry comes, box by box, and those of entry after entry.
-use Rattle.std.proofs.Common.{◌≡◌, ◌≢◌, ℕ, ◌+◌, ◌<◌, inl, inr, List, [], ◌∷◌, ◌++◌, Some, length, get_or, take, refl, sym, ◌∙◌, ap, subst, arith}
+use Rattle.std.proofs.Common.{◌≡◌, ◌≢◌, ℕ, ◌+◌, ◌<◌, inl, inr, List, [], ◌∷◌, ◌++◌, Some, length, get_or, take, refl, sym, ap, subst, arith}
 use Rattle.std.specs.Prelude.{slice_get}
-use Rattle.std.proofs.lemmas.List.{take_more}
 use Rattle.std.proofs.lemmas.List.Elements.{Contains-push, Contains-push_cases, Contains-append_left}
 use Rattle.geo_rect.specs.declared.ids.LayerId.{LayerId}
 use Rattle.geo_rect.specs.declared.ids.Node.{Node}
@@ -13,6 +12,7 @@ use Rattle.geo_rect.specs.Plane.{HasPoint, IsMeet, ShareNoPoint}
 use Rattle.geo_rect.proofs.Clamps.{clamped_level, clamped_point}
 use Rattle.board_model.specs.Shapes.{place_of}
 use Rattle.route_law.specs.declared.certs.Entry.{Entry}
+use Rattle.route_law.proofs.Numbered.{take_one_more}
 use Rattle.tile_search.specs.declared.goals.Goal.{Goal}
 use Rattle.tile_search.specs.Goals.{IsGoalIn, IsGoalAt, IsGoalOf, IsGoalAmong, IsCheapest}
 use Rattle.tile_search.proofs.Cheapest.{IsEither, cheapest_as}
@@ -66,10 +66,6 @@ module _ (box : Spot) (n : ℕ) (e : Entry) where
 
     pub cheapest_at : (m : Goal) → IsCheapest (IsGoalIn part n e) m → IsCheapest (IsGoalAt box n e) m
     cheapest_at m h = cheapest_as (IsGoalIn part n e) (IsGoalAt box n e) m at_of_in in_of_at h
-
--- the first items and one more
-take_one_more : {A : Type 0} (xs : List A) (i : ℕ) (x : A) → i < length xs → x ≡ get_or xs i x → take (i + 1) xs ≡ take i xs ++ x ∷ []
-take_one_more xs i x l e = take_more xs i x l ∙ ap (λ y. take i xs ++ y ∷ []) (sym e)
 
 -- a goal in some boxes and one more is a goal in them, or in that one
 goals_pushed : (few : List Spot) (x : Spot) (n : ℕ) (e : Entry) → IsEither (IsGoalOf few n e) (IsGoalAt x n e) (IsGoalOf (few ++ x ∷ []) n e)

@@ -4,11 +4,11 @@ pub mod Costs
 pub mod GoalsAt
 pub mod Lows
 pub mod Numbered
-pub mod OnBoards
 pub mod Onces
 pub mod Popped
 pub mod Pushed
 pub mod Rights
+pub mod Rising
 pub mod Settled
 pub mod Settling
 pub mod Steps

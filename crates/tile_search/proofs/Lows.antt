@@ -1,67 +1,59 @@
--- Where there is a box, there is a least distance to one.
-use Rattle.std.proofs.Common.{ℕ, ◌<◌, ◌≤◌, inl, inr, List, [], ◌∷◌, length, subst, arith}
+-- The least distance to a target box, box by box.
+use Rattle.std.proofs.Common.{◌≡◌, ℕ, ◌+◌, ◌<◌, ◌≤◌, ◌⊎◌, inl, inr, min, List, Contains, length, get_or, take, sym, subst, arith}
 use Rattle.std.proofs.lemmas.Bool.{cases_lt}
+use Rattle.std.proofs.lemmas.List.{take_all}
 use Rattle.geo_rect.specs.declared.ids.Spot.{Spot}
 use Rattle.geo_rect.specs.declared.shapes.Rect.{Rect}
 use Rattle.geo_rect.specs.Distance.{IsDistance}
-use Rattle.geo_rect.proofs.Distances.{find_distance, distance_one}
-use Rattle.plane_core.proofs.Members.{has_head, has_tail, has_cases, has_none}
+use Rattle.geo_rect.proofs.Distances.{distance_one}
 use Rattle.route_law.specs.Covers.{IsLow}
+use Rattle.route_law.proofs.Numbered.{taken_cases}
 
-alone_low : (x : Spot) (front : Rect) (n : ℕ) → IsDistance front x.area n → IsLow (x ∷ []) front n
-alone_low x front n d = record {
-  nearest = x;
-  listed = has_head x [];
-  distance = d;
-  least = λ box m h k.
-      elim (has_cases x [] box h) [
-        | inl e ↦
-            let P : Spot → Type 0 = λ y. IsDistance front y.area n in
-            omega (arith, distance_one front box.area n m (subst P e d) k)
-        | inr h ↦ absurd (has_none box h)
-      ];
-}
+-- n is the distance from the front to some target box, and at most that to each of a few
+pub record IsLowSoFar (targets few : List Spot) (front : Rect) (n : ℕ) : Type 0 where
+  pub nearest : Spot
+  pub listed : Contains targets nearest
+  pub distance : IsDistance front nearest.area n
+  pub least : (box : Spot) (m : ℕ) → Contains few box → IsDistance front box.area m → n ≤ m
 
--- one more box that is no nearer
-farther_low : (x : Spot) (xs : List Spot) (front : Rect) (m n : ℕ) → IsLow xs front m → IsDistance front x.area n → m ≤ n → IsLow (x ∷ xs) front m
-farther_low x xs front m n l d h = record {
-  nearest = l.nearest;
-  listed = has_tail x xs l.nearest l.listed;
-  distance = l.distance;
-  least = λ box k c i.
-      elim (has_cases x xs box c) [
-        | inl e ↦
-            let P : Spot → Type 0 = λ y. IsDistance front y.area n in
-            omega (arith, distance_one front box.area n k (subst P e d) i)
-        | inr c ↦ l.least box k c i
-      ];
-}
+module _ (targets : List Spot) (front : Rect) where
+  pub low_first : (x : Spot) (n : ℕ) → 0 < length targets → x ≡ get_or targets 0 x → IsDistance front x.area n → IsLowSoFar targets (take 0 targets) front n
+  low_first x n some is d = record {
+    nearest = x;
+    listed = (0, some, sym is);
+    distance = d;
+    least = λ box m c e. let l = c.1 in absurd (omega (arith, l));
+  }
 
--- one more box that is nearer
-nearer_low : (x : Spot) (xs : List Spot) (front : Rect) (m n : ℕ) → IsLow xs front m → IsDistance front x.area n → n ≤ m → IsLow (x ∷ xs) front n
-nearer_low x xs front m n l d h = record {
-  nearest = x;
-  listed = has_head x xs;
-  distance = d;
-  least = λ box k c i.
-      elim (has_cases x xs box c) [
-        | inl e ↦
-            let P : Spot → Type 0 = λ y. IsDistance front y.area n in
-            omega (arith, distance_one front box.area n k (subst P e d) i)
-        | inr c ↦ omega (arith, l.least box k c i)
-      ];
-}
+  module _ (i : ℕ) (x : Spot) (m n : ℕ) (room : i < length targets) (is : x ≡ get_or targets i x) (low : IsLowSoFar targets (take i targets) front m) (d : IsDistance front x.area n) where
+    least_more : (k : ℕ) → k ≤ m → k ≤ n → (box : Spot) (j : ℕ) → Contains (take (i + 1) targets) box → IsDistance front box.area j → k ≤ j
+    least_more k before here box j c e =
+        elim (taken_cases targets i x box room is c) [
+          | inl h ↦ omega (arith, low.least box j h e, before)
+          | inr q ↦
+              let P : Spot → Type 0 = λ y. IsDistance front y.area n in
+              omega (arith, distance_one front box.area n j (subst P q d) e, here)
+        ]
 
-low_of_some : (x : Spot) (xs : List Spot) (front : Rect) → (n : ℕ) × IsLow (x ∷ xs) front n
-low_of_some x [] front = let d = find_distance front x.area in (d.0, alone_low x front d.0 d.1)
-low_of_some x (y ∷ ys) front =
-    let l = low_of_some y ys front in
-    let d = find_distance front x.area in
-    elim (cases_lt d.0 l.0) [
-      | inl h ↦ (d.0, nearer_low x (y ∷ ys) front l.0 d.0 l.1 d.1 (omega arith))
-      | inr h ↦ (l.0, farther_low x (y ∷ ys) front l.0 d.0 l.1 d.1 h)
-    ]
+    low_of_min : (m < n) ⊎ (n ≤ m) → IsLowSoFar targets (take (i + 1) targets) front (min m n)
+    low_of_min (inl h) =
+        let e : m ≡ min m n = omega arith in
+        subst (IsLowSoFar targets (take (i + 1) targets) front) e
+        (record { nearest = low.nearest; listed = low.listed; distance = low.distance; least = least_more m (omega arith) (omega arith) })
+    low_of_min (inr h) =
+        let e : n ≡ min m n = omega arith in
+        subst (IsLowSoFar targets (take (i + 1) targets) front) e
+        (record { nearest = x; listed = (i, room, sym is); distance = d; least = least_more n h (omega arith) })
 
-pub find_low : (targets : List Spot) (front : Rect) → 0 < length targets → (n : ℕ) × IsLow targets front n
-find_low [] front h = absurd (omega arith)
-find_low (x ∷ xs) front h = low_of_some x xs front
+    pub low_more : IsLowSoFar targets (take (i + 1) targets) front (min m n)
+    low_more = low_of_min (cases_lt m n)
+
+  pub low_all : (i n : ℕ) → length targets ≤ i → IsLowSoFar targets (take i targets) front n → IsLow targets front n
+  low_all i n l low = record {
+    nearest = low.nearest;
+    listed = low.listed;
+    distance = low.distance;
+    least = λ box m c d.
+        let P : List Spot → Type 0 = λ xs. Contains xs box in
+        low.least box m (subst P (sym (take_all i targets l)) c) d;
+  }

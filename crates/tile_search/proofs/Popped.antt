@@ -84,11 +84,12 @@ module _ (entries : List Entry) (old mid : List Pair) (t : IsThinned entries old
   }
 
   -- what is popped is the next
-  pub next_of : (key : ℕ) (e : Entry) (new : List Pair) → IsPopped mid (record { key = key; entry = e }) new → (IsReachedBefore entries (arrival_of e) → ⊥) → IsNext entries old new e
-  next_of key e new h u =
+  pub next_of : (best : Option Goal) (key : ℕ) (e : Entry) (new : List Pair) → IsPopped mid (record { key = key; entry = e }) new → (IsLate best key → ⊥) → (IsReachedBefore entries (arrival_of e) → ⊥) → IsNext entries best old new e
+  next_of best key e new h early u =
       let p : Pair = record { key = key; entry = e } in
       record {
         key = key;
+        early = early;
         listed = t.kept p (popped_taken mid p new h);
         uncovered = u;
         least = λ q k. popped_least mid p new h q k;

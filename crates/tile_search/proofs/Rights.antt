@@ -1,5 +1,5 @@
 -- Where no front that waits is of use, the settled fronts and the best goal make a right certificate.
-use Rattle.std.proofs.Common.{◌≡◌, ℕ, ◌+◌, ◌<◌, ◌≤◌, inl, inr, List, Contains, Option, Some, None, IsSomeAnd, length, refl, subst, arith}
+use Rattle.std.proofs.Common.{◌≡◌, ℕ, ◌+◌, ◌≤◌, inl, inr, List, Contains, Option, Some, None, IsSomeAnd, refl, subst, arith}
 use Rattle.geo_rect.specs.declared.ids.Node.{Node}
 use Rattle.geo_rect.specs.declared.ids.Spot.{Spot}
 use Rattle.geo_rect.specs.declared.shapes.Point.{Point}
@@ -14,13 +14,13 @@ use Rattle.route_law.specs.Moves.{Arrival, arrival_of}
 use Rattle.route_law.specs.Right.{IsEnd, IsLeastEnd, HasNoEnd, IsBoundOf, IsRight}
 use Rattle.route_law.proofs.Doors.{find_meet}
 use Rattle.wavefront.specs.Waiting.{Pair}
+use Rattle.route_law.proofs.Numbered.{numbered_listed, listed_numbered}
 use Rattle.tile_search.specs.declared.goals.Goal.{Goal}
 use Rattle.tile_search.specs.declared.searches.Search.{Search}
 use Rattle.tile_search.specs.Goals.{IsGoalAmong, IsCheapest, IsLeastGoal}
+use Rattle.tile_search.specs.Keys.{IsKey}
 use Rattle.tile_search.specs.Underway.{IsWaiting, IsMet, IsUnderway, bound_of, cert_of}
 use Rattle.tile_search.specs.Waits.{IsLate, IsNeedless, AreNeedless}
-use Rattle.tile_search.proofs.Lows.{find_low}
-use Rattle.tile_search.proofs.Numbered.{numbered_listed, listed_numbered}
 
 module _ (targets : List Spot) (entries : List Entry) where
   -- a node of a target box in the strip of an entry is a goal
@@ -101,16 +101,14 @@ module _ (targets : List Spot) (entries : List Entry) where
   is_bound None h = no_end h
   is_bound (Some goal) h = least_end goal h
 
-module _ (g : Ground) (sources targets : List Spot) (s : Search) (some : 0 < length targets) (u : IsUnderway g sources targets s) (needless : AreNeedless s.table s.best s.queue.pairs) where
-  late_of : (best : Option Goal) (a : Arrival) → IsLate best a.cost → IsSomeAnd (bound_of best) (λ d. IsTooLate targets d a)
-  late_of None a h = absurd h
-  late_of (Some goal) a h =
-      let l = find_low targets a.front some in
-      record { low = l.0; is_low = l.1; late = omega (arith, h) }
+module _ (g : Ground) (sources targets : List Spot) (s : Search) (u : IsUnderway g sources targets s) (needless : AreNeedless s.table s.best s.queue.pairs) where
+  late_of : (best : Option Goal) (p : Pair) → IsKey targets p.entry p.key → IsLate best p.key → IsSomeAnd (bound_of best) (λ d. IsTooLate targets d (arrival_of p.entry))
+  late_of None p k h = absurd h
+  late_of (Some goal) p k h = record { low = k.low; is_low = k.is_low; late = omega (arith, h, k.sum) }
 
-  pair_covered : (p : Pair) → IsWaiting g sources s.table p → IsNeedless s.table s.best p → IsCovered targets (cert_of s.table s.best) (arrival_of p.entry)
+  pair_covered : (p : Pair) → IsWaiting g sources targets s.table p → IsNeedless s.table s.best p → IsCovered targets (cert_of s.table s.best) (arrival_of p.entry)
   pair_covered p w (inl r) = inl r
-  pair_covered p w (inr l) = inr (late_of s.best (arrival_of p.entry) (subst (λ (k : ℕ). IsLate s.best k) w.key l))
+  pair_covered p w (inr l) = inr (late_of s.best p w.key l)
 
   covered : (a : Arrival) → IsMet s.table s.queue.pairs a → IsCovered targets (cert_of s.table s.best) a
   covered a (inl r) = inl r

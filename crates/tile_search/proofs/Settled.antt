@@ -78,17 +78,17 @@ module _ (g : Ground) where
       move_founded x (by_via k o m) =
           subst (λ (y : Origin). IsFrom g sources (entries ++ e ∷ []) (length (entries ++ e ∷ [])) (arrival_of x) y) (sym o) (from_last (λ b. IsViaMove g k b (arrival_of x)) m)
 
-      waiting_kept : (p : Pair) → IsWaiting g sources entries p → IsWaiting g sources (entries ++ e ∷ []) p
-      waiting_kept p h = record {
+      waiting_kept : (targets : List Spot) (p : Pair) → IsWaiting g sources targets entries p → IsWaiting g sources targets (entries ++ e ∷ []) p
+      waiting_kept targets p h = record {
         key = h.key;
         placed = h.placed;
         founded = from_kept e (length entries) (length (entries ++ e ∷ [])) (omega (arith, one_more entries e)) (arrival_of p.entry) p.entry.origin h.founded;
       }
 
       -- what waits after one more front is settled
-      pub waiting_more : (old : List Pair) (p : Pair) → ((q : Pair) → Contains old q → IsWaiting g sources entries q) → IsOldOrMove g old (length entries) e p → IsWaiting g sources (entries ++ e ∷ []) p
-      waiting_more old p h (was_there k) = waiting_kept p (h p k)
-      waiting_more old p h (is_move key m) = record { key = key; placed = move_placed (arrival_of e) (length entries) p.entry m; founded = move_founded p.entry m }
+      pub waiting_more : (targets : List Spot) (old : List Pair) (p : Pair) → ((q : Pair) → Contains old q → IsWaiting g sources targets entries q) → IsOldOrMove g targets old (length entries) e p → IsWaiting g sources targets (entries ++ e ∷ []) p
+      waiting_more targets old p h (was_there k) = waiting_kept targets p (h p k)
+      waiting_more targets old p h (is_move key m) = record { key = key; placed = move_placed (arrival_of e) (length entries) p.entry m; founded = move_founded p.entry m }
 
       last_founded : (n : ℕ) (x : Entry) → n ≡ length entries → e ≡ x → IsFrom g sources entries (length entries) (arrival_of e) e.origin → IsFrom g sources (entries ++ e ∷ []) n (arrival_of x) x.origin
       last_founded n x i q h =
@@ -106,8 +106,8 @@ module _ (g : Ground) where
           ]
 
   -- a start that waits comes from its source box
-  pub start_waiting : (sources : List Spot) (n : ℕ) (p : Pair) → IsStartPair g sources n p → IsWaiting g sources [] p
-  start_waiting sources n p h = record {
+  pub start_waiting : (sources targets : List Spot) (n : ℕ) (p : Pair) → IsStartPair g sources targets n p → IsWaiting g sources targets [] p
+  start_waiting sources targets n p h = record {
     key = h.key;
     placed = start_placed h.box p.entry h.start.start;
     founded = subst (λ (o : Origin). IsFrom g sources [] 0 (arrival_of p.entry) o) (sym h.start.from) (record { box = h.box; numbered = h.numbered; start = h.start.start });

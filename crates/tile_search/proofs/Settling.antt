@@ -26,8 +26,8 @@ pub record HasAllMoves (g : Ground) (targets : List Spot) (e : Entry) (moves : L
   pub vias : (k : KindId) (a : Arrival) → IsViaMove g k (arrival_of e) a → HasArrival moves (Via n k) a
   pub goals : IsLeastGoal (IsGoalOf targets n e) found
 
-module _ (g : Ground) (targets : List Spot) (old new : Search) (e : Entry) (moves : List Entry) (found : Option Goal) (pushed : IsPushed old.queue.pairs new.queue.pairs moves) (h : HasAllMoves g targets e moves found (length old.table)) where
-  old_or_move : (p : Pair) → Contains new.queue.pairs p → IsOldOrMove g old.queue.pairs (length old.table) e p
+module _ (g : Ground) (targets : List Spot) (old new : Search) (e : Entry) (moves : List Entry) (found : Option Goal) (pushed : IsPushed targets old.queue.pairs new.queue.pairs moves) (h : HasAllMoves g targets e moves found (length old.table)) where
+  old_or_move : (p : Pair) → Contains new.queue.pairs p → IsOldOrMove g targets old.queue.pairs (length old.table) e p
   old_or_move p k =
       elim (pushed.each p k) [
         | inl o ↦ was_there o
@@ -48,8 +48,8 @@ module _ (g : Ground) (targets : List Spot) (old new : Search) (e : Entry) (move
     table = table;
     kept = pushed.kept;
     each = old_or_move;
-    edges = λ a m. waits_pushed old.queue.pairs new.queue.pairs moves (Step (length old.table)) a pushed (h.edges a m);
-    vias = λ k a m. waits_pushed old.queue.pairs new.queue.pairs moves (Via (length old.table) k) a pushed (h.vias k a m);
+    edges = λ a m. waits_pushed targets old.queue.pairs new.queue.pairs moves (Step (length old.table)) a pushed (h.edges a m);
+    vias = λ k a m. waits_pushed targets old.queue.pairs new.queue.pairs moves (Via (length old.table) k) a pushed (h.vias k a m);
     best = best_more table best;
     pushes = pushes;
   }

@@ -13,6 +13,7 @@ use Rattle.route_law.specs.Walks.{HasNode, IsLeastCost}
 use Rattle.tile_search.specs.declared.answers.Found.{Found}
 use Rattle.tile_search.specs.declared.answers.Found.TheVariants.{Path, NoRoute}
 use Rattle.tile_search.specs.declared.goals.Goal.{Goal}
+use Rattle.tile_search.specs.Keys.{IsGoalOrdered}
 use Rattle.tile_search.specs.Once.{AreSettledOnce}
 use Rattle.tile_search.specs.Underway.{cert_of}
 
@@ -63,9 +64,14 @@ IsNoRoute (Path cost entry end cert) = ⊥
 IsNoRoute (NoRoute cert) = ⊤
 
 -- the certificate lists fronts in the order in which they were settled, each once
-abbrev pub HasEachFrontOnce : Found → Type 0
-HasEachFrontOnce (Path cost entry end cert) = AreSettledOnce cert.entries
-HasEachFrontOnce (NoRoute cert) = AreSettledOnce cert.entries
+abbrev pub HasEachFrontOnce : List Spot → Found → Type 0
+HasEachFrontOnce targets (Path cost entry end cert) = AreSettledOnce targets cert.entries
+HasEachFrontOnce targets (NoRoute cert) = AreSettledOnce targets cert.entries
+
+-- of a path, each entry's cost and the least distance from its front to a target box are together at most its cost
+abbrev pub HasGoalOrder : List Spot → Found → Type 0
+HasGoalOrder targets (Path cost entry end cert) = IsGoalOrdered targets cert.entries cost
+HasGoalOrder targets (NoRoute cert) = ⊤
 
 -- the answer is this goal, with this certificate
 pub record IsPathTo (goal : Goal) (certificate : Cert) (cost n : ℕ) (v : Node) (cert : Cert) : Type 0 where

@@ -1,5 +1,6 @@
 pub mod Answers
 pub mod Goals
+pub mod Keys
 pub mod Once
 pub mod Underway
 pub mod Waits

@@ -3,7 +3,7 @@ ghost use Rattle.std.specs.Prelude.{◌<◌, ◌↔◌, length, All, IfOk};
 ghost use Rattle.plane_set.specs.Standing.{HasPlanes};
 ghost use Rattle.route_law.specs.Walks.{HasNoJoiningWalk};
 ghost use Rattle.strip_moves.specs.Grounds.{ground_of};
-ghost use Rattle.tile_search.specs.Answers.{IsAnswerOf, HasRightPath, HasPathEnd, HasRightRefusal, HasLeastCost, HasEachFrontOnce, IsNoRoute};
+ghost use Rattle.tile_search.specs.Answers.{IsAnswerOf, HasRightPath, HasPathEnd, HasRightRefusal, HasLeastCost, HasEachFrontOnce, HasGoalOrder, IsNoRoute};
 ghost use Rattle.strip_moves.specs.Boxes.{IsBoardBox};
 
 use crate::searches::Search;
@@ -32,7 +32,8 @@ pub enum Found {
 }
 
 /// The cheapest walk of the net from a source box to a target box, with a certificate that none is
-/// cheaper, or one that there is none. The source boxes lie on the board, and there is a target box.
+/// cheaper, or one that there is none. The source boxes and the target boxes lie on the board, and there
+/// is a target box.
 pub fn search<P: Plane>(
     alloc: Global,
     board: &Board,
@@ -45,13 +46,15 @@ pub fn search<P: Plane>(
     requires net { net.0 < length board.now.parts.net_names }
     requires sources { All (IsBoardBox board.now.parts) sources.now }
     requires target { 0 < length targets.now }
+    requires targets { All (IsBoardBox board.now.parts) targets.now }
     ensures path { IfOk result (HasRightPath (ground_of board.now.parts planes.now net) sources.now targets.now) }
     ensures path_end { IfOk result (HasPathEnd targets.now) }
     ensures path_least { IfOk result (HasLeastCost (ground_of board.now.parts planes.now net) sources.now targets.now) }
     ensures none { IfOk result (HasRightRefusal (ground_of board.now.parts planes.now net) sources.now targets.now) }
     ensures none_exactly { IfOk result (λ found. IsNoRoute found
         ↔ HasNoJoiningWalk (ground_of board.now.parts planes.now net) sources.now targets.now) }
-    ensures each_once { IfOk result HasEachFrontOnce }
+    ensures each_once { IfOk result (HasEachFrontOnce targets.now) }
+    ensures goes_to_the_goal { IfOk result (HasGoalOrder targets.now) }
 {
     let mut searched = Search::start(alloc, board, planes, net, sources, targets)?;
     searched.run(alloc, board, planes, net, sources, targets)?;

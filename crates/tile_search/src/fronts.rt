@@ -16,11 +16,11 @@ fn is_late(best: Option<Goal>, key: u128) -> bool
     }
 }
 
-/// Takes out the cheapest front that waits and is not covered by a settled one; `None` where no front
-/// is left that is cheaper than the best goal. Fronts that are covered are dropped.
+/// Takes out the front of the least key that waits and is not covered by a settled one; `None` where no
+/// front is left whose key is less than what the best goal costs. Fronts that are covered are dropped.
 pub fn next_front(queue: &mut Queue, table: &Table, best: Option<Goal>) -> Option<Entry>
     requires { All HasBoundedFront queue.old.pairs }
-    ensures some { IfSome result (λ e. IsNext table.now queue.old.pairs queue.new.pairs e) }
+    ensures some { IfSome result (λ e. IsNext table.now best queue.old.pairs queue.new.pairs e) }
     ensures none { IfNone result (AreNeedless table.now best queue.old.pairs) }
     ensures pushes { queue.new.pushes ≡ queue.old.pushes }
 {

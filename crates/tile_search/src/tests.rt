@@ -18,31 +18,12 @@ use geo_rect::{ClassId, LayerId, List, NetId, NoMemory, Node, Rect, Spot, Text};
 use path_trace::trace;
 use plane_core::Plane;
 use plane_set::PlaneSet;
-use route_law::Cert;
+use route_law::{Cert, Entry};
 use std::alloc::Global;
 use std::process::Abort;
 use std::test::Fail;
 
 const TOP: LayerId = LayerId(0);
-
-/// A board, 40 by 20, on which nothing stands, with neither layers nor nets.
-fn bare(alloc: Global, name: Text) -> BoardParts {
-    BoardParts {
-        name,
-        width: 40,
-        height: 20,
-        layers: List::new(alloc),
-        classes: List::new(alloc),
-        rules: List::new(alloc),
-        kind_names: List::new(alloc),
-        kinds: List::new(alloc),
-        pads: List::new(alloc),
-        blocks: List::new(alloc),
-        net_names: List::new(alloc),
-        net_classes: List::new(alloc),
-        pins: List::new(alloc),
-    }
-}
 
 fn left_pin() -> Rect {
     Rect::new(4, 9, 6, 11)
@@ -61,24 +42,38 @@ fn pin(area: Rect) -> Pin {
     }
 }
 
-/// One layer, one class and one net with two pins, and a wall.
-fn fill(alloc: Global, parts: &mut BoardParts, wall: Rect) -> Result<(), NoMemory> {
+/// One layer, one class and one net with two pins, and walls.
+fn fill(
+    alloc: Global,
+    parts: &mut BoardParts,
+    walls: &[Rect],
+    from: Rect,
+    to: Rect,
+) -> Result<(), NoMemory> {
     parts.layers.push(Text::from_str(alloc, "top")?)?;
     parts.classes.push(Text::from_str(alloc, "thin")?)?;
     parts.rules.push(Rule { half: 1, gap: 2 })?;
     parts.net_names.push(Text::from_str(alloc, "a")?)?;
     parts.net_classes.push(ClassId(0))?;
-    parts.blocks.push(Block {
-        layer: TOP,
-        area: wall,
-    })?;
-    parts.pins.push(pin(left_pin()))?;
-    parts.pins.push(pin(right_pin()))
+    for wall in walls {
+        parts.blocks.push(Block {
+            layer: TOP,
+            area: *wall,
+        })?;
+    }
+    parts.pins.push(pin(from))?;
+    parts.pins.push(pin(to))
 }
 
-fn board_with(rt: &impl Abort, alloc: Global, wall: Rect) -> Result<Board, NoMemory> {
-    let mut parts = bare(alloc, Text::from_str(alloc, "wall")?);
-    fill(alloc, &mut parts, wall)?;
+fn board_with(
+    rt: &impl Abort,
+    alloc: Global,
+    walls: &[Rect],
+    from: Rect,
+    to: Rect,
+) -> Result<Board, NoMemory> {
+    let mut parts = BoardParts::new(alloc, "wall", 40, 20)?;
+    fill(alloc, &mut parts, walls, from, to)?;
     assert!(rt; parts.is_board());
     Board::build(alloc, parts)
 }
@@ -201,18 +196,24 @@ fn verdict_on<P: Plane>(
     }
 }
 
-/// What the search finds from the left pin to the right one over the board with this wall; the
-/// checker must say yes to it.
-fn search_past<P: Plane>(rt: &impl Abort, alloc: Global, wall: Rect) -> Result<Found, NoMemory> {
-    let board = board_with(rt, alloc, wall)?;
+/// What the search finds from one pin to the other over the board with these walls; the checker must
+/// say yes to it.
+fn search_past<P: Plane>(
+    rt: &impl Abort,
+    alloc: Global,
+    walls: &[Rect],
+    from: Rect,
+    to: Rect,
+) -> Result<Found, NoMemory> {
+    let board = board_with(rt, alloc, walls, from, to)?;
     let planes: PlaneSet<P> = PlaneSet::build(alloc, &board)?;
     let sources = [Spot {
         layer: TOP,
-        area: left_pin(),
+        area: from,
     }];
     let targets = [Spot {
         layer: TOP,
-        area: right_pin(),
+        area: to,
     }];
     assert!(rt; board.nets() > 0);
     assert!(rt; are_on_board(&board, &sources));
@@ -232,21 +233,73 @@ fn path_of(found: &Found) -> Option<(u128, Node)> {
     }
 }
 
+/// How far two ranges of numbers are apart.
+fn gap(low: i32, high: i32, from: i32, to: i32) -> u64 {
+    let before = i64::from(low) - i64::from(to);
+    let after = i64::from(from) - i64::from(high);
+    before.max(after).max(0).unsigned_abs()
+}
+
+/// Whether the entry's cost and the distance from its front to the box are together at most this.
+fn is_early(e: Entry, to: Rect, cost: u128) -> bool {
+    let across = gap(e.front.x0, e.front.x1, to.x0, to.x1);
+    let up = gap(e.front.y0, e.front.y1, to.y0, to.y1);
+    e.cost
+        .saturating_add(u128::from(across))
+        .saturating_add(u128::from(up))
+        <= cost
+}
+
+/// Whether a path is found each of whose entries goes to the box within the path's cost.
+fn is_goal_ordered(found: &Found, to: Rect) -> bool {
+    match found {
+        Found::Path { cost, cert, .. } => {
+            let cost = *cost;
+            cert.entries
+                .as_slice()
+                .iter()
+                .all(|e| is_early(*e, to, cost))
+        }
+        Found::NoRoute { .. } => false,
+    }
+}
+
 #[test]
 fn a_net_goes_round_a_wall_with_a_gap(rt: HostRuntime) -> Result<(), Fail> {
-    let open = search_past::<FlatPlane>(&rt, rt.alloc(), Rect::new(18, 0, 22, 14))?;
+    let walls = [Rect::new(18, 0, 22, 14)];
+    let open = search_past::<FlatPlane>(&rt, rt.alloc(), &walls, left_pin(), right_pin())?;
     let end = Node {
         x: 34,
         y: 11,
         layer: TOP,
     };
     assert!(rt; path_of(&open) == Some((40, end)));
+    assert!(rt; is_goal_ordered(&open, right_pin()));
     Ok(())
 }
 
 #[test]
 fn no_route_leads_through_a_wall_up_to_the_edge(rt: HostRuntime) -> Result<(), Fail> {
-    let shut = search_past::<FlatPlane>(&rt, rt.alloc(), Rect::new(18, 0, 22, 17))?;
+    let walls = [Rect::new(18, 0, 22, 17)];
+    let shut = search_past::<FlatPlane>(&rt, rt.alloc(), &walls, left_pin(), right_pin())?;
     assert!(rt; path_of(&shut).is_none());
+    Ok(())
+}
+
+/// Between the walls the strip of the rows 9 to 11 is entered at (7, 9) for 18, from where the target is
+/// 22 away, and at (33, 9) for 22. The way out is above the second, 15 right, 16 up and 13 left from the
+/// start; from the first it would cost 66 in all.
+#[test]
+fn the_dearer_of_two_fronts_leads_on(rt: HostRuntime) -> Result<(), Fail> {
+    let walls = [Rect::new(10, 6, 30, 6), Rect::new(0, 14, 30, 14)];
+    let from = Rect::new(18, 2, 18, 2);
+    let to = Rect::new(20, 18, 20, 18);
+    let found = search_past::<FlatPlane>(&rt, rt.alloc(), &walls, from, to)?;
+    let end = Node {
+        x: 20,
+        y: 18,
+        layer: TOP,
+    };
+    assert!(rt; path_of(&found) == Some((44, end)));
     Ok(())
 }

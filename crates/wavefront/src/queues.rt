@@ -1,4 +1,4 @@
-//! Fronts that wait, the cheapest first.
+//! Fronts that wait, that of the least key first.
 
 ghost use Rattle.std.specs.Prelude.{◌≡◌, ◌+◌, ◌^◌, ◌<◌, ◌↔◌, [], ◌∷◌, ◌++◌, length, IsTrue, IfSome, IfNone, OnOk, OnErr};
 ghost use Rattle.wavefront.specs.Waiting.{IsPopped};

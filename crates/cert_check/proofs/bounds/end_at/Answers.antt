@@ -2,7 +2,7 @@ use Rattle.std.proofs.Common.{◌+◌, ℕ, ap, subst, sym}
 use Rattle.board_model.specs.Lookup.{layer_at}
 use Rattle.cert_check.specs.Bounds.{IsLeast, IsEndAt}
 use Rattle.cert_check.proofs.Leasts.{end_at_only}
-use Rattle.cert_check.proofs.OnBoard.{part_bounded}
+use Rattle.strip_moves.proofs.Bounded.{part_bounded}
 use Rattle.cert_check.proofs.bounds.end_at.Goals as goal
 
 pub dist-requires-clause-second : goal.dist-requires-clause-second

@@ -3,7 +3,7 @@ use Rattle.board_model.specs.Lookup.{layer_at}
 use Rattle.route_law.specs.Moves.{Arrival, arrival_of}
 use Rattle.cert_check.proofs.Cases.{not_both}
 use Rattle.cert_check.proofs.Moved.{over_edge, edge_moved}
-use Rattle.cert_check.proofs.OnBoard.{part_bounded}
+use Rattle.strip_moves.proofs.Bounded.{part_bounded}
 use Rattle.cert_check.proofs.origins.is_edge_move.Goals as goal
 
 pub is_moved-requires-clause-door : goal.is_moved-requires-clause-door

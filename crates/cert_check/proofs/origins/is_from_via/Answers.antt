@@ -3,8 +3,9 @@ use Rattle.std.proofs.lemmas.List.Elements.{All-contains}
 use Rattle.route_law.specs.declared.certs.Entry.{Entry}
 use Rattle.route_law.specs.Moves.{arrival_of, IsViaMove}
 use Rattle.strip_moves.specs.Grounds.{ground_of}
+use Rattle.route_law.proofs.Numbered.{numbered_listed}
 use Rattle.cert_check.specs.Fronts.{IsBoundedEntry}
-use Rattle.cert_check.proofs.Numbered.{one_numbered, numbered_listed}
+use Rattle.cert_check.proofs.Numbered.{one_numbered}
 use Rattle.cert_check.proofs.origins.is_from_via.Goals as goal
 
 pub is_via_move-requires-clause-from : goal.is_via_move-requires-clause-from

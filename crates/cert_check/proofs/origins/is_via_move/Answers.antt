@@ -7,7 +7,7 @@ use Rattle.cert_check.specs.Fronts.{IsMoved}
 use Rattle.cert_check.proofs.Cases.{not_true, not_both}
 use Rattle.cert_check.proofs.Meets.{three_third}
 use Rattle.cert_check.proofs.Moved.{via_passed, moved_by, by_via, same_common}
-use Rattle.cert_check.proofs.OnBoard.{part_bounded, the_ground}
+use Rattle.strip_moves.proofs.Bounded.{part_bounded, the_ground}
 use Rattle.cert_check.proofs.origins.is_via_move.Goals as goal
 
 pub returns-in_default : goal.returns-in_default

@@ -1,6 +1,6 @@
 use Rattle.strip_moves.specs.Grounds.{ground_of}
 use Rattle.cert_check.proofs.Cases.{not_true, not_both}
-use Rattle.cert_check.proofs.OnBoard.{the_ground}
+use Rattle.strip_moves.proofs.Bounded.{the_ground}
 use Rattle.cert_check.proofs.Placing.{placed_passage, one_passage}
 use Rattle.cert_check.proofs.places.is_well_placed.Goals as goal
 

@@ -7,7 +7,8 @@ use Rattle.cert_check.specs.Fronts.{IsBoundedEntry, HasBoundedFront}
 use Rattle.cert_check.specs.Stages.{Started, Followed, IsStarted, IsClosed}
 use Rattle.cert_check.proofs.Cases.{not_both}
 use Rattle.cert_check.proofs.Judging.{searched_none, searched_some, placed_in, founded_in, unfounded_in, right_if_closed, match_is_least, match_leaves_none}
-use Rattle.cert_check.proofs.OnBoard.{the_ground, all_placed_bounded}
+use Rattle.strip_moves.proofs.Bounded.{the_ground}
+use Rattle.cert_check.proofs.OnBoard.{all_placed_bounded}
 use Rattle.cert_check.proofs.verdicts.check.Goals as goal
 
 pub returns-in-Some-first_unfounded-clause-exact : goal.returns-in-Some-first_unfounded-clause-exact

@@ -5,7 +5,7 @@ use Rattle.strip_moves.specs.Boxes.{IsBoardBox}
 use Rattle.strip_moves.specs.Grounds.{ground_of}
 use Rattle.session_core.specs.Attempts.{IsAttempt, IsAttemptOn}
 use Rattle.session_core.proofs.Answering.{attempt_of, targets_there}
-use Rattle.session_core.proofs.OnBoard.{sources_within}
+use Rattle.session_core.proofs.OnBoard.{sources_within, targets_within}
 use Rattle.session_core.proofs.Turning.{net_listed}
 use Rattle.session_core.proofs.attempts.next_of.Goals as goal
 
@@ -22,6 +22,12 @@ join-requires-clause-target g c =
     let b = c.args.board.now.parts in
     subst (λ (boxes : List Spot). 0 < length boxes) (sym (c.as_slice-2.ensures ∙ c.in_ok-targets.ensures))
     (targets_there b c.args.net c.args.number c.requires.sitting.board c.requires.pin)
+
+pub join-requires-clause-targets : goal.join-requires-clause-targets
+join-requires-clause-targets g c =
+    let b = c.args.board.now.parts in
+    subst (λ (boxes : List Spot). All (IsBoardBox b) boxes) (sym (c.as_slice-2.ensures ∙ c.in_ok-targets.ensures))
+    (targets_within b c.args.net c.args.number c.requires.sitting.board c.requires.pin)
 
 pub returns : goal.returns
 returns g c =

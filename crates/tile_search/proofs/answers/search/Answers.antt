@@ -3,9 +3,9 @@ use Rattle.std.proofs.lemmas.Result.{IfOk-weaker}
 use Rattle.route_law.specs.Ground.{Ground}
 use Rattle.route_law.specs.Walks.{HasNoJoiningWalk}
 use Rattle.strip_moves.specs.Grounds.{ground_of}
-use Rattle.tile_search.specs.Answers.{IsAnswerOf, HasRightPath, HasPathEnd, HasLeastCost, HasRightRefusal, HasEachFrontOnce, IsNoRoute}
-use Rattle.tile_search.proofs.Answering.{right_path, path_end, least_cost, right_refusal, none_exactly, each_once}
-use Rattle.tile_search.proofs.OnBoards.{the_ground}
+use Rattle.strip_moves.proofs.Bounded.{the_ground}
+use Rattle.tile_search.specs.Answers.{IsAnswerOf, HasRightPath, HasPathEnd, HasLeastCost, HasRightRefusal, HasEachFrontOnce, HasGoalOrder, IsNoRoute}
+use Rattle.tile_search.proofs.Answering.{right_path, path_end, least_cost, right_refusal, none_exactly, each_once, goal_order}
 use Rattle.tile_search.proofs.answers.search.Goals as goal
 
 pub returns-clause-path : goal.returns-clause-path
@@ -52,6 +52,13 @@ returns-clause-none_exactly g c =
 pub returns-clause-each_once : goal.returns-clause-each_once
 returns-clause-each_once g c =
     let s = c.run.new.self in
-    IfOk-weaker c.answer_of.result (IsAnswerOf s.table s.best) HasEachFrontOnce
-    (λ f a. each_once s.table s.best f a c.in_ok-run.ensures.once)
+    IfOk-weaker c.answer_of.result (IsAnswerOf s.table s.best) (HasEachFrontOnce c.args.targets.now)
+    (λ f a. each_once c.args.targets.now s.table s.best f a c.in_ok-run.ensures.once)
+    c.answer_of.ensures
+
+pub returns-clause-goes_to_the_goal : goal.returns-clause-goes_to_the_goal
+returns-clause-goes_to_the_goal g c =
+    let s = c.run.new.self in
+    IfOk-weaker c.answer_of.result (IsAnswerOf s.table s.best) (HasGoalOrder c.args.targets.now)
+    (λ f a. goal_order c.args.targets.now s.table s.best f a c.in_ok-run.ensures.ordered)
     c.answer_of.ensures

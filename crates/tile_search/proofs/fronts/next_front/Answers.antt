@@ -17,7 +17,8 @@ covered-requires c =
 
 pub returns-then-not-covered-clause-some : goal.returns-then-not-covered-clause-some
 returns-then-not-covered-clause-some c =
-    next_of c.args.table.now c.args.queue.now.pairs c.loop-key.queue.pairs c.loop-key.invariant.thinned c.in-Some.key c.in-Some.e c.pop.new.self.pairs c.in-Some.ensures.some
+    next_of c.args.table.now c.args.queue.now.pairs c.loop-key.queue.pairs c.loop-key.invariant.thinned c.args.best c.in-Some.key c.in-Some.e c.pop.new.self.pairs c.in-Some.ensures.some
+    (λ r. let k : c.is_late.result ≡ true = c.is_late.ensures.1 r in let m = c.if-is_late.false in cc)
     (λ r. let k : c.covered.result ≡ true = c.covered.ensures.1 r in let m = c.if-not-covered.true in cc)
 
 pub loop-key-preserved : goal.loop-key-preserved

@@ -26,4 +26,4 @@ loop-e-preserved g c =
 pub returns-clause-right : goal.returns-clause-right
 returns-clause-right g c =
     let ground : Ground = ground_of c.args.board.now.parts c.args.planes.now c.args.net in
-    is_right ground c.args.sources.now c.args.targets.now c.loop-e.self c.requires.target c.loop-e.invariant c.in_default.ensures.none
+    is_right ground c.args.sources.now c.args.targets.now c.loop-e.self c.loop-e.invariant c.in_default.ensures.none

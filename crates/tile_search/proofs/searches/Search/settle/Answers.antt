@@ -6,8 +6,9 @@ use Rattle.route_law.specs.Ground.{Ground}
 use Rattle.route_law.specs.Moves.{Arrival, arrival_of, IsEdgeMove, IsViaMove}
 use Rattle.strip_moves.specs.Grounds.{ground_of}
 use Rattle.strip_moves.specs.Listed.{HasArrival, IsMoveFrom}
+use Rattle.strip_moves.proofs.Bounded.{boxes_bounded, strip_bounded, front_bounded}
 use Rattle.tile_search.specs.declared.searches.Search.{Search}
-use Rattle.tile_search.proofs.OnBoards.{strip_bounded, front_bounded}
+use Rattle.tile_search.proofs.Costs.{moves_room}
 use Rattle.tile_search.proofs.Settling.{HasAllMoves, settled_by}
 use Rattle.tile_search.proofs.searches.Search.settle.Goals as goal
 
@@ -19,6 +20,18 @@ goal_of-requires-clause-strip g c = strip_bounded c.args.board.now.parts c.args.
 
 pub goal_of-requires-clause-front : goal.goal_of-requires-clause-front
 goal_of-requires-clause-front g c = front_bounded c.args.board.now.parts c.args.planes.now c.args.net c.args.board.now.kept c.requires.planes c.requires.net c.args.e c.requires.placed
+
+pub push_entries-requires-clause-targets : goal.push_entries-requires-clause-targets
+push_entries-requires-clause-targets g c = boxes_bounded c.args.board.now.parts c.args.board.now.kept c.args.targets.now c.requires.targets
+
+pub push_entries-requires-clause-room : goal.push_entries-requires-clause-room
+push_entries-requires-clause-room g c =
+    let number = length c.entries.result.now in
+    let same : number ≡ length c.args.self.now.table = ap (λ (es : List Entry). length es) c.entries.ensures.entries in
+    let few : length c.args.self.now.table < 2 ^ 63 = omega (arith, same) in
+    let ground : Ground = ground_of c.args.board.now.parts c.args.planes.now c.args.net in
+    let each = subst (λ (es : List Entry). All (IsMoveFrom ground (arrival_of c.args.e) number) es) (sym c.as_slice.ensures) c.in_ok-moves.ensures.each in
+    moves_room c.args.board.now.parts c.args.planes.now c.args.net c.args.board.now.kept c.requires.planes c.requires.net c.args.e number (length c.args.self.now.table) c.requires.placed c.requires.cost few c.as_slice.result.now each
 
 pub returns : goal.returns
 returns g c =
