@@ -4,11 +4,11 @@
 #![tactic(auto)]
 
 mod orders;
-mod paints;
 mod planes;
 mod queries;
 
 pub use planes::StitchedPlane;
+pub use tile_cuts::{cut_col, cut_row, join_side, join_up};
 
 #[cfg(test)]
 mod tests;

@@ -1,6 +1,5 @@
 ghost use Rattle.std.specs.Prelude.{◌≡◌};
 
-use crate::paints::paint;
 use crate::queries::{strip_having, strips_beside, strips_meeting};
 use geo_rect::{Label, NoMemory, Point, Rect};
 use plane_core::{Plane, Side, Strip, Strips};
@@ -8,6 +7,7 @@ use std::alloc::Global;
 use std::marker::{Brand, Model};
 use std::sync::ledger::Blank;
 use stitch_walk::Tiling;
+use tile_paint::paint;
 
 /// A plane whose strips are the tiles of a linked tiling.
 #[derive(Drop)]
