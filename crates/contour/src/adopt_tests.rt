@@ -2,14 +2,15 @@
 
 ghost use Rattle.std.specs.Prelude.{◌<◌, length};
 
+use crate::begins::begin;
 use crate::reader_tests::changed;
 use board_model::{Board, Conn, Leg};
 use board_reader::read_input;
-use flat_plane::FlatPlane;
 use geo_rect::{LayerId, List, NetId, NoMemory, Node};
 use session_core::{Adopted, Session};
 use std::alloc::Global;
 use std::test::Fail;
+use strip_merge::StitchedPlane;
 
 fn node(x: i32, y: i32) -> Node {
     Node {
@@ -36,7 +37,7 @@ fn over(alloc: Global, row: i32, cost: u128) -> Result<Conn, NoMemory> {
 fn adopt_on(alloc: Global, board: Board, conns: &[Conn]) -> Result<Adopted, NoMemory>
     requires { 0 < length board.parts.net_names }
 {
-    let session = Session::<FlatPlane>::start(alloc, board)?;
+    let session: Session<StitchedPlane> = begin(alloc, board)?;
     let (_, adopted) = session.adopt(alloc, NetId(0), conns)?;
     Ok(adopted)
 }

@@ -8,6 +8,7 @@ ghost use Rattle.contour.specs.Answers.{AnswersAll};
 ghost use Rattle.contour.specs.Endings.{EndsAnswer, EndsAnswers, EndsSending};
 ghost use Rattle.contour.specs.Sessions.{AnswersOne, AnswersWith};
 
+use crate::begins::begin;
 use crate::endings::Ending;
 use board_model::{Board, Command};
 use io_edge::{Sink, write_all};
@@ -92,7 +93,7 @@ fn answer<P: Plane, K: Sink>(
 
 /// Makes the reply to each command, from a session on the board in which nothing is made, and writes
 /// it before it begins the next.
-pub fn answer_each<P: Plane, K: Sink>(
+pub fn answer_each<K: Sink>(
     alloc: Global,
     board: Board,
     commands: &[Command],
@@ -105,7 +106,7 @@ pub fn answer_each<P: Plane, K: Sink>(
     ensures never_falls { K.faults out.old ≤ K.faults out.new }
     ensures setup { K.setup out.new ≡ K.setup out.old }
 {
-    let mut session = Session::<P>::start(alloc, board)?;
+    let mut session = begin(alloc, board)?;
     for command in commands {
         session = answer(alloc, session, *command, quiet, out)?;
     }

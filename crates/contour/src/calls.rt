@@ -16,27 +16,8 @@ use crate::inputs::{MAX_INPUT, read_text};
 use crate::lines::{right_line, tell};
 use crate::requests::{Request, request_of};
 use board_gen::generate;
-use board_model::{Board, Command};
-use flat_plane::FlatPlane;
 use io_edge::{Sink, Source, read_all, write_all};
 use std::alloc::Global;
-
-/// Makes the reply to each command over flat planes, and writes it before it begins the next.
-fn answer_all<K: Sink>(
-    alloc: Global,
-    board: Board,
-    commands: &[Command],
-    quiet: bool,
-    out: &mut K,
-) -> Result<(), Ending>
-    requires { All (IsCommandOf board.parts) commands.now }
-    ensures ok { OnOk result (AnswersAll board.parts quiet commands.now (K.written out.old) (K.written out.new)) }
-    ensures err { IfErr result (EndsAnswers board.parts quiet commands.now (K.written out.old) (K.written out.new) (K.faults out.old) (K.faults out.new)) }
-    ensures never_falls { K.faults out.old ≤ K.faults out.new }
-    ensures setup { K.setup out.new ≡ K.setup out.old }
-{
-    answer_each::<FlatPlane, K>(alloc, board, commands, quiet, out)
-}
 
 /// Reads a board text and writes the reply to each of its commands.
 fn run<S: Source, K: Sink>(
@@ -54,7 +35,7 @@ fn run<S: Source, K: Sink>(
     ensures sink_setup { K.setup out.new ≡ K.setup out.old }
 {
     let input = read_text(alloc, source)?;
-    answer_all(alloc, input.board, input.commands.as_slice(), quiet, out)
+    answer_each(alloc, input.board, input.commands.as_slice(), quiet, out)
 }
 
 /// Writes the line that says how many replies are right.

@@ -8,12 +8,12 @@ ghost use Rattle.contour.specs.Checked.{AreRight, EndsChecking, EndsJudging, End
 use crate::endings::Ending;
 use board_model::Board;
 use board_reader::{Input, Refusal, RefusalKind, count_lines, read_input, split_check};
-use flat_plane::FlatPlane;
 use geo_rect::List;
 use replay_check::{ReplayEnd, replay};
 use reply_reader::{ReadReplies, read_replies};
 use route_law::Reply;
 use std::alloc::Global;
+use strip_merge::StitchedPlane;
 
 /// How a check ends where no line `replies` is there: the text is refused as a board text, or for the line
 /// that is missing.
@@ -61,7 +61,7 @@ fn judge(alloc: Global, input: &Input, bytes: &[u8], before: u64) -> Result<u64,
     ensures err { IfErr result (EndsJudging (told_by input.now) bytes.now before) }
 {
     let replies = replies_behind(alloc, &input.board, bytes, before)?;
-    match replay::<FlatPlane>(alloc, input, replies.as_slice())? {
+    match replay::<StitchedPlane>(alloc, input, replies.as_slice())? {
         ReplayEnd::Yes => Ok(replies.len() as u64),
         ReplayEnd::No(number) => Err(Ending::Wrong(number)),
     }

@@ -10,12 +10,12 @@ ghost use Rattle.contour.specs.Endings.{EndsSending};
 ghost use Rattle.contour.specs.Requests.{IsSize};
 
 use crate::answers::reply_to;
+use crate::begins::begin;
 use crate::endings::Ending;
 use board_gen::generate;
 use board_model::{Board, Command};
 use board_reader::read_input;
 use demo_text::summary;
-use flat_plane::FlatPlane;
 use io_edge::{Sink, write_all};
 use plane_core::Plane;
 use route_law::Reply;
@@ -61,18 +61,13 @@ fn finish<P: Plane, K: Sink>(
 
 /// Makes the replies to `all` and to `rules`, from a session on the board in which nothing is made,
 /// and writes each before it begins the next, and at last their summary.
-fn demonstrate<P: Plane, K: Sink>(
-    alloc: Global,
-    board: Board,
-    n: u32,
-    out: &mut K,
-) -> Result<(), Ending>
+fn demonstrate<K: Sink>(alloc: Global, board: Board, n: u32, out: &mut K) -> Result<(), Ending>
     ensures ok { OnOk result (SumsUp board.parts asked n (K.written out.old) (K.written out.new)) }
     ensures err { IfErr result (EndsSummary board.parts asked n (K.written out.old) (K.written out.new) (K.faults out.old) (K.faults out.new)) }
     ensures never_falls { K.faults out.old ≤ K.faults out.new }
     ensures setup { K.setup out.new ≡ K.setup out.old }
 {
-    let session = Session::<P>::start(alloc, board)?;
+    let session = begin(alloc, board)?;
     let (session, first) = reply_to(alloc, session, Command::All, true, out)?;
     finish(alloc, session, n, &first, out)
 }
@@ -86,5 +81,5 @@ pub fn demo<K: Sink>(alloc: Global, n: u32, out: &mut K) -> Result<(), Ending>
 {
     let text = generate(alloc, n)?;
     let input = read_input(alloc, text.as_slice())?;
-    demonstrate::<FlatPlane, K>(alloc, input.board, n, out)
+    demonstrate(alloc, input.board, n, out)
 }

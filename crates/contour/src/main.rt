@@ -4,6 +4,7 @@
 #[cfg(test)]
 mod adopt_tests;
 mod answers;
+mod begins;
 mod calls;
 #[cfg(test)]
 mod check_tests;

@@ -31,6 +31,16 @@ end
 route a
 ";
 
+/// A board with one command, and no reply to it.
+const UNANSWERED: &str = "board 1 demo 40 20
+layer top
+class sig
+rule top sig 1 2
+end
+rules
+replies
+";
+
 const CLOSE: &str = "board 1 demo 40 20
 layer top
 class sig
@@ -224,16 +234,26 @@ fn a_refused_text_is_named_by_its_line(rt: HostRuntime) -> Result<(), Fail> {
         let text = with_line(alloc, PLAIN, number, line)?;
         expect(&rt, &["run"], text.as_str(), Status::BadInput, "", err)?;
     }
-    let cut = first_lines(alloc, PLAIN, 8)?;
-    expect(
-        &rt,
-        &["run"],
-        cut.as_str(),
-        Status::BadInput,
-        "",
-        "line 9 kind 9\n",
-    )?;
-    expect(&rt, &["run"], "", Status::BadInput, "", "line 1 kind 9\n")
+    Ok(())
+}
+
+#[test]
+fn a_text_without_its_end_is_refused_after_its_last_line(rt: HostRuntime) -> Result<(), Fail> {
+    for (count, err) in [
+        (0, "line 1 kind 9\n"),
+        (1, "line 2 kind 9\n"),
+        (2, "line 3 kind 9\n"),
+        (3, "line 4 kind 9\n"),
+        (4, "line 5 kind 9\n"),
+        (5, "line 6 kind 9\n"),
+        (6, "line 7 kind 9\n"),
+        (7, "line 8 kind 9\n"),
+        (8, "line 9 kind 9\n"),
+    ] {
+        let cut = first_lines(rt.alloc(), PLAIN, count)?;
+        expect(&rt, &["run"], cut.as_str(), Status::BadInput, "", err)?;
+    }
+    Ok(())
 }
 
 #[test]
@@ -266,14 +286,65 @@ fn other_words_are_refused(rt: HostRuntime) -> Result<(), Fail> {
     Ok(())
 }
 
+/// Runs the program on the text of a route, sixteen bytes a call, of which a call fails.
+fn expect_read(
+    rt: &(impl Abort + AllocGlobal),
+    failing: u64,
+    status: Status,
+    err: &str,
+) -> Result<u64, Fail> {
+    let mut source = MemSource::new(rt.alloc(), ROUTED.as_bytes(), 16, &[failing])?;
+    let mut out = MemSink::new(rt.alloc(), 4096, 4096, &[])?;
+    expect_told(rt, &["run"], &mut source, &mut out, status, err)?;
+    assert_eq!(rt; out.held.is_empty(), status == Status::ReadFault);
+    Ok(source.calls)
+}
+
 #[test]
 fn a_failed_read_ends_the_call(rt: HostRuntime) -> Result<(), Fail> {
-    for k in 1..6 {
-        let mut source = MemSource::new(rt.alloc(), ROUTED.as_bytes(), 32, &[k])?;
-        let err = "read fault\n";
-        expect_from(&rt, &["run"], &mut source, Status::ReadFault, "", err)?;
-        assert_eq!(rt; source.calls, k);
+    // The text has 147 bytes: ten calls, and one that gives none.
+    for k in 1..12 {
+        let calls = expect_read(&rt, k, Status::ReadFault, "read fault\n")?;
+        assert_eq!(rt; calls, k);
     }
+    expect_read(&rt, 12, Status::Done, "")?;
+    Ok(())
+}
+
+/// How the program ends on the text of a route, into a sink that takes ten bytes a call, of which one
+/// fails.
+fn status_into(
+    rt: &(impl Abort + AllocGlobal),
+    failing: u64,
+    whole: &[u8],
+) -> Result<Status, Fail> {
+    let mut source = MemSource::new(rt.alloc(), ROUTED.as_bytes(), 4096, &[])?;
+    let mut out = MemSink::new(rt.alloc(), 16384, 10, &[failing])?;
+    let mut err = MemSink::new(rt.alloc(), 64, 64, &[])?;
+    let status = ended(rt.alloc(), &["run"], &mut source, &mut out, &mut err)?;
+    assert!(rt; whole.starts_with(out.held.as_slice()));
+    Ok(status)
+}
+
+/// What the program writes on the text of a route.
+fn routed(rt: &(impl Abort + AllocGlobal)) -> Result<MemSink, Fail> {
+    let mut source = MemSource::new(rt.alloc(), ROUTED.as_bytes(), 4096, &[])?;
+    let mut out = MemSink::new(rt.alloc(), 16384, 4096, &[])?;
+    expect_told(rt, &["run"], &mut source, &mut out, Status::Done, "")?;
+    Ok(out)
+}
+
+#[test]
+fn a_failed_write_ends_the_call(rt: HostRuntime) -> Result<(), Fail> {
+    let whole = routed(&rt)?;
+    let calls = whole.held.len().div_ceil(10) as u64;
+    assert!(rt; whole.held.as_slice().starts_with(b"route a made 1 of 1\n"));
+    for k in 1..calls + 1 {
+        let status = status_into(&rt, k, whole.held.as_slice())?;
+        assert_eq!(rt; status, Status::WriteFault);
+    }
+    let status = status_into(&rt, calls + 1, whole.held.as_slice())?;
+    assert_eq!(rt; status, Status::Done);
     Ok(())
 }
 
@@ -294,10 +365,9 @@ fn expect_cut(rt: &(impl Abort + AllocGlobal), failing: u64, held: &str) -> Resu
 }
 
 #[test]
-fn a_failed_write_ends_the_call(rt: HostRuntime) -> Result<(), Fail> {
+fn what_was_written_before_a_fault_stays(rt: HostRuntime) -> Result<(), Fail> {
     expect_cut(&rt, 1, "")?;
-    expect_cut(&rt, 2, "route a ma")?;
-    expect_cut(&rt, 3, "route a made 1 of 1\n")
+    expect_cut(&rt, 2, "route a ma")
 }
 
 /// Runs the program over these streams, where its line on standard error cannot be written.
@@ -331,6 +401,7 @@ fn a_fault_of_err_changes_no_status(rt: HostRuntime) -> Result<(), Fail> {
     for (word, text, reads, writes, status) in [
         ("go", PLAIN, 0, 0, Status::BadWords),
         ("check", PLAIN, 0, 0, Status::BadInput),
+        ("check", UNANSWERED, 0, 0, Status::Wrong),
         ("run", "board", 0, 0, Status::BadInput),
         ("run", PLAIN, 1, 0, Status::ReadFault),
         ("run", PLAIN, 0, 1, Status::WriteFault),

@@ -1,0 +1,42 @@
+use Rattle.std.proofs.Common.{ℤ, ◌≡◌, subst, ◌≤ℤ◌, ◌<ℤ◌, w32, to_z, of_z, arith}
+use Rattle.std.proofs.lemmas.Int.{ints}
+use Rattle.tile_paint.specs.Changes.{IsFrom}
+use Rattle.stitch_walk.proofs.Reaching.{when_true, when_false}
+use Rattle.tile_paint.proofs.Axes.{at_least}
+use Rattle.tile_paint.proofs.Cutting.{read_piece}
+use Rattle.tile_paint.proofs.Narrowing.{narrowed_not}
+use Rattle.tile_paint.proofs.Trimming.{can_cut_row, all_from, row_cut_open, row_cut_upper, upper_rest}
+use Rattle.tile_paint.proofs.trims.cut_below.Goals as goal
+
+pub returns-then-not-begins_below-clause-narrowed : goal.returns-then-not-begins_below-clause-narrowed
+returns-then-not-begins_below-clause-narrowed c = narrowed_not c.args.t.now.store c.args.found c.requires.piece
+
+pub returns-then-not-begins_below-clause-rest : goal.returns-then-not-begins_below-clause-rest
+returns-then-not-begins_below-clause-rest c = all_from c.args.band.y0 c.args.found.piece.area (at_least _ _ (when_false _ _ c.begins_below.ensures c.if-not-begins_below.true))
+
+pub cut_row-upper-requires-clause-crosses : goal.cut_row-upper-requires-clause-crosses
+cut_row-upper-requires-clause-crosses c =
+    let less : c.args.found.piece.area.y0 <ℤ c.args.band.y0 = when_true _ _ c.begins_below.ensures c.if-not-begins_below.false in
+    let reaches = c.requires.reaches in
+    let at : to_z w32 (of_z w32 c.args.band.y0) ≡ c.args.band.y0 = omega (arith, ints) in
+    can_cut_row c.args.t.now.store c.reserve.new.self.store c.args.found.id c.args.found.piece _ c.reserve.ensures.tiles c.requires.piece (omega (arith, ints)) (omega (arith, ints))
+
+pub returns-clause-open_from : goal.returns-clause-open_from
+returns-clause-open_from c =
+    let at : to_z w32 (of_z w32 c.args.band.y0) ≡ c.args.band.y0 = omega (arith, ints) in
+    let now = read_piece c.cut_row-upper.new.t.store _ c.read.result c.read.ensures.id c.read.ensures.piece in
+    let low = c.requires.band.from in let high = c.requires.band.to in let order = c.args.band.y_ordered in
+    row_cut_open c.args.t.now.store c.reserve.new.self.store c.cut_row-upper.new.t.store c.args.found c.read.result c.cut_row-upper.result c.reserve.ensures.tiles c.requires.piece now c.cut_row-upper.ensures.cut _ c.cut_row-upper.ensures.begins c.args.area c.args.band.y0 c.requires.open_from c.requires.touches (omega (arith, ints)) (omega (arith, ints))
+
+pub returns-clause-narrowed : goal.returns-clause-narrowed
+returns-clause-narrowed c =
+    let now = read_piece c.cut_row-upper.new.t.store _ c.read.result c.read.ensures.id c.read.ensures.piece in
+    row_cut_upper c.args.t.now.store c.reserve.new.self.store c.cut_row-upper.new.t.store c.args.found c.read.result c.cut_row-upper.result c.reserve.ensures.tiles c.requires.piece now c.cut_row-upper.ensures.cut _ c.cut_row-upper.ensures.begins c.read.ensures.id
+
+pub returns-clause-rest : goal.returns-clause-rest
+returns-clause-rest c =
+    let less : c.args.found.piece.area.y0 <ℤ c.args.band.y0 = when_true _ _ c.begins_below.ensures c.if-not-begins_below.false in
+    let at : to_z w32 (of_z w32 c.args.band.y0) ≡ c.args.band.y0 = omega (arith, ints) in
+    let now = read_piece c.cut_row-upper.new.t.store _ c.read.result c.read.ensures.id c.read.ensures.piece in
+    let Q : ℤ → Type 0 = λ z. IsFrom z c.args.found.piece.area c.read.result.piece.area in
+    subst Q at (upper_rest c.args.t.now.store c.reserve.new.self.store c.cut_row-upper.new.t.store c.args.found c.read.result c.cut_row-upper.result c.reserve.ensures.tiles c.requires.piece now c.cut_row-upper.ensures.cut _ c.cut_row-upper.ensures.begins c.read.ensures.id (omega (arith, ints)))
