@@ -1,19 +1,18 @@
 -- When there is no ledge at a point, and when the pieces on its two sides can be joined.
-use Rattle.std.proofs.Common.{ℤ, pos, ◌≡◌, ◌≢◌, ◌⊎◌, inl, inr, ◌+ℤ◌, ◌-ℤ◌, ◌≤ℤ◌, ◌<ℤ◌, refl, sym, subst, ap, ◌∙◌, arith}
+use Rattle.std.proofs.Common.{ℤ, pos, ◌≡◌, ◌⊎◌, inl, inr, ◌+ℤ◌, ◌-ℤ◌, ◌≤ℤ◌, refl, sym, subst, ap, ◌∙◌, arith}
 use Rattle.std.proofs.lemmas.Int.{ints, by_lt_z}
 use Rattle.geo_rect.specs.declared.ids.Label.{Label}
 use Rattle.geo_rect.specs.declared.shapes.Interval.{Interval}
 use Rattle.geo_rect.specs.declared.shapes.Point.{Point}
 use Rattle.geo_rect.specs.declared.shapes.Rect.{Rect}
-use Rattle.geo_rect.specs.Plane.{columns, rows, rect_of, HasPoint}
+use Rattle.geo_rect.specs.Plane.{columns, rect_of, HasPoint}
 use Rattle.plane_core.specs.declared.strips.Strip.{Strip}
-use Rattle.plane_core.specs.LocalForm.{HaveSameColumns}
 use Rattle.tile_store.specs.declared.tiles.TileId.{TileId}
 use Rattle.tile_store.specs.Store.{Store}
 use Rattle.stitch_walk.specs.Pieces.{IsPiece, AreStacked, CanJoin, FillDomain, HasLabel, IsJoined}
 use Rattle.tile_paint.specs.declared.spots.Found.{Found}
 use Rattle.tile_paint.specs.Changes.{AreAlike, IsGrownDown, AreJoinedAt, HasNoLedgeAt, IsFreeOfLedges}
-use Rattle.tile_paint.specs.Edges.{EndsUnder, BeginsOn, IsLedge}
+use Rattle.tile_paint.specs.Edges.{EndsUnder, IsLedge}
 use Rattle.tile_paint.proofs.Axes.{has_point_in}
 use Rattle.tile_paint.proofs.Cutting.{one_piece}
 use Rattle.tile_paint.proofs.JoinsUp.{has_upper, join_up_changes, join_up_gone}

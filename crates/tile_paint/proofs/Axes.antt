@@ -1,5 +1,5 @@
 -- One axis: two intervals that follow one another and are whole together.
-use Rattle.std.proofs.Common.{ℤ, pos, ◌≡◌, ◌⊎◌, inl, inr, ◌+ℤ◌, ◌≤ℤ◌, ◌<ℤ◌, arith}
+use Rattle.std.proofs.Common.{ℤ, ◌⊎◌, inl, inr, ◌≤ℤ◌, ◌<ℤ◌, arith}
 use Rattle.std.proofs.lemmas.Int.{ints, by_lt_z}
 use Rattle.geo_rect.specs.declared.shapes.Interval.{Interval}
 use Rattle.geo_rect.specs.declared.shapes.Point.{Point}
@@ -8,6 +8,10 @@ use Rattle.geo_rect.specs.Axis.{HasNumber, LiesWithin}
 use Rattle.geo_rect.specs.Plane.{columns, rows, HasPoint, LiesIn}
 use Rattle.plane_core.specs.LocalForm.{HaveSameColumns}
 use Rattle.stitch_walk.specs.Pieces.{IsSplit, AreStacked, AreInLine, HaveSameRows}
+
+-- the point of column x and row y
+abbrev pub spot : ℤ → ℤ → Point
+spot x y = record { x = x; y = y }
 
 pub at_least : (a b : ℤ) → (a <ℤ b → ⊥) → b ≤ℤ a
 at_least a b not_less = by_lt_z a b (λ less. absurd (not_less less)) (λ more. more)

@@ -1,29 +1,22 @@
 -- A band that is joined from its left end to its right one has no seam left.
-use Rattle.std.proofs.Common.{ℤ, pos, ◌≡◌, ◌≢◌, ◌⊎◌, inl, inr, ◌+ℤ◌, ◌-ℤ◌, ◌≤ℤ◌, ◌<ℤ◌, refl, sym, subst, ap, ◌∙◌, arith}
+use Rattle.std.proofs.Common.{ℤ, pos, ◌≡◌, ◌⊎◌, inl, inr, ◌+ℤ◌, ◌-ℤ◌, ◌≤ℤ◌, ◌<ℤ◌, refl, sym, subst, ap, ◌∙◌, arith}
 use Rattle.std.proofs.lemmas.Int.{ints, by_lt_z}
 use Rattle.geo_rect.specs.declared.ids.Label.{Label}
-use Rattle.geo_rect.specs.declared.shapes.Point.{Point}
 use Rattle.geo_rect.specs.declared.shapes.Rect.{Rect}
 use Rattle.geo_rect.specs.Axis.{HasNumber}
-use Rattle.geo_rect.specs.Plane.{columns, rows, HasPoint, LiesIn}
+use Rattle.geo_rect.specs.Plane.{rows, HasPoint, LiesIn}
 use Rattle.plane_core.specs.declared.strips.Strip.{Strip}
 use Rattle.tile_store.specs.declared.tiles.TileId.{TileId}
 use Rattle.tile_store.specs.Store.{Store}
-use Rattle.stitch_walk.specs.Pieces.{IsPiece, FillDomain, HasLabel, IsOfPiece}
+use Rattle.stitch_walk.specs.Pieces.{IsPiece, FillDomain, HasLabel}
 use Rattle.tile_paint.specs.declared.spots.Found.{Found}
 use Rattle.tile_paint.specs.Changes.{HaveSameLabels}
-use Rattle.tile_paint.specs.Edges.{EndsBefore, BeginsWith, IsSeam, IsLedge, BeginsOn}
-use Rattle.tile_paint.specs.States.{IsSeamFrom, IsLedgeFrom, IsBandOf, AreTall, foot, IsLeftEnd, IsRightEnd, IsWidened, IsWide, IsJoining, MeetsFrom, IsInnerFrom, AreInnerFrom, IsBandJoined}
-use Rattle.tile_paint.proofs.AtPoints.{one_at, label_of_piece}
+use Rattle.tile_paint.specs.Edges.{EndsBefore, BeginsWith, IsSeam, IsLedge}
+use Rattle.tile_paint.specs.States.{IsSeamFrom, IsLedgeFrom, IsBandOf, AreTall, foot, IsLeftEnd, IsRightEnd, IsWidened, IsWide, IsJoining, MeetsFrom, IsInnerFrom, IsBandJoined}
+use Rattle.tile_paint.proofs.Axes.{spot}
+use Rattle.tile_paint.proofs.AtPoints.{one_at}
 use Rattle.tile_paint.proofs.Cutting.{one_piece}
 use Rattle.tile_paint.proofs.JoinsUp.{has_upper}
-
--- the point of column x and row y
-abbrev spot : ℤ → ℤ → Point
-spot x y = record { x = x; y = y }
-
-row_in : (i : Rect) (x y z : ℤ) → HasPoint i (spot x y) → HasNumber (rows i) z → HasPoint i (spot x z)
-row_in i x y z h r = record { across = h.across; up = r }
 
 -- the piece that a seam has on its left has the point there, and that on its right has the next one
 pub left_point : (s : Store) (x y : ℤ) (label : Label) (e : EndsBefore s x y label) (z : ℤ) → x ≡ z +ℤ pos 1 → HasPoint e.piece.area (record { x = z; y = y })
@@ -118,18 +111,18 @@ module _ (before s : Store) (domain : Rect) (fill : FillDomain s domain) (area b
         let fl = f.left in let fr = f.right in
         let wb = iw.begins in let jb = j.begins in
         by_lt_z joined.piece.area.x1 x
-          (λ beyond. right_end beyond (omega (arith, ints)) w.right)
-          (λ within. by_lt_z joined.piece.area.x0 x
-            (λ after. not_within after (omega (arith, ints)) within)
-            (λ at. left_end (omega (arith, ints)) (omega (arith, ints)) w.left))
+        (λ beyond. right_end beyond (omega (arith, ints)) w.right)
+        (λ within. by_lt_z joined.piece.area.x0 x
+        (λ after. not_within after (omega (arith, ints)) within)
+        (λ at. left_end (omega (arith, ints)) (omega (arith, ints)) w.left))
 
   seams_above : (x y : ℤ) → IsSeam s x y → IsSeamFrom area (band.y1 +ℤ pos 1) x y
   seams_above x y k =
       let f = j.open_from.seams x y k in
       let a = f.from in
       by_lt_z band.y1 y
-        (λ above. let r : IsSeamFrom area (band.y1 +ℤ pos 1) x y = record { from = omega (arith, ints); to = f.to; left = f.left; right = f.right } in r)
-        (λ le. absurd (no_seam_in_band x y k (record { from = omega (arith, ints); to = le }) f))
+      (λ above. let r : IsSeamFrom area (band.y1 +ℤ pos 1) x y = record { from = omega (arith, ints); to = f.to; left = f.left; right = f.right } in r)
+      (λ le. absurd (no_seam_in_band x y k (record { from = omega (arith, ints); to = le }) f))
 
   module _ (first last y : ℤ) (k : IsLedge s first last y) (f : IsLedgeFrom area band.y0 first last y) where
     columns_ordered : first ≤ℤ last
@@ -142,17 +135,17 @@ module _ (before s : Store) (domain : Rect) (fill : FillDomain s domain) (area b
     no_ledge_in_band less le =
         let bl = is_band.left in let br = is_band.right in let fl = f.left in let fr = f.right in let o = columns_ordered in let ob = band.x_ordered in
         by_lt_z first (band.x0 -ℤ pos 1)
-          (λ before_it. not_at (band.x0 -ℤ pos 1) (omega (arith, ints)) (omega (arith, ints)) (omega (arith, ints)) (omega (arith, ints)) less le)
-          (λ after. not_at first (omega (arith, ints)) o after (omega (arith, ints)) less le)
+        (λ before_it. not_at (band.x0 -ℤ pos 1) (omega (arith, ints)) (omega (arith, ints)) (omega (arith, ints)) (omega (arith, ints)) less le)
+        (λ after. not_at first (omega (arith, ints)) o after (omega (arith, ints)) less le)
 
     row_of_ledge : (y ≡ band.y0) ⊎ ((band.y1 +ℤ pos 1) ≤ℤ y)
     row_of_ledge =
         let a = f.from in
         by_lt_z band.y0 y
-          (λ less. by_lt_z band.y1 y
-            (λ above. inr (let r : (band.y1 +ℤ pos 1) ≤ℤ y = omega (arith, ints) in r))
-            (λ le. absurd (no_ledge_in_band less le)))
-          (λ at. inl (let r : y ≡ band.y0 = omega (arith, ints) in r))
+        (λ less. by_lt_z band.y1 y
+        (λ above. inr (let r : (band.y1 +ℤ pos 1) ≤ℤ y = omega (arith, ints) in r))
+        (λ le. absurd (no_ledge_in_band less le)))
+        (λ at. inl (let r : y ≡ band.y0 = omega (arith, ints) in r))
 
   module _ (n : TileId) (q : Strip) (e : IsPiece s n q) (m : MeetsFrom area (band.y1 +ℤ pos 1) q.area) where
     not_joined : q ≡ joined.piece → ⊥
@@ -175,8 +168,8 @@ module _ (before s : Store) (domain : Rect) (fill : FillDomain s domain) (area b
         absurd (not_joined (one_piece s joined.id q joined.piece (subst Q same e) j.is_piece))
     inner_of (inr i) =
         by_lt_z band.y1 q.area.y0
-          (λ above. let r : IsInnerFrom area (band.y1 +ℤ pos 1) q.area = record { inside = i.inside; from = omega (arith, ints) } in r)
-          (λ le. absurd (not_low i le))
+        (λ above. let r : IsInnerFrom area (band.y1 +ℤ pos 1) q.area = record { inside = i.inside; from = omega (arith, ints) } in r)
+        (λ le. absurd (not_low i le))
 
   lower_meets : (q : Rect) → MeetsFrom area (band.y1 +ℤ pos 1) q → MeetsFrom area band.y0 q
   lower_meets q m = let a = m.from in let o = band.y_ordered in record { meets_at = m.meets_at; in_first = m.in_first; in_second = m.in_second; from = omega (arith, ints) }

@@ -1,12 +1,12 @@
 -- The last row of a band: no higher than where a tile ends that has a point in its first row or beside it.
-use Rattle.std.proofs.Common.{ℤ, pos, ◌≡◌, ◌<◌, ◌+ℤ◌, ◌-ℤ◌, ◌≤ℤ◌, ◌<ℤ◌, refl, sym, subst, ap, ◌∙◌, arith}
-use Rattle.std.specs.Int.{int_max, int_min}
+use Rattle.std.proofs.Common.{ℤ, pos, ◌≡◌, ◌<◌, ◌+ℤ◌, ◌-ℤ◌, ◌≤ℤ◌, ◌<ℤ◌, refl, subst, ap, arith}
+use Rattle.std.specs.Int.{int_max}
 use Rattle.std.specs.Int.RustNames.{unsigned_abs}
 use Rattle.std.proofs.lemmas.Int.{ints, clamps, by_lt_z}
 use Rattle.geo_rect.specs.declared.shapes.Point.{Point}
 use Rattle.geo_rect.specs.declared.shapes.Rect.{Rect}
 use Rattle.geo_rect.specs.Axis.{HasNumber}
-use Rattle.geo_rect.specs.Plane.{columns, rows, HasPoint, LiesIn}
+use Rattle.geo_rect.specs.Plane.{rows, HasPoint, LiesIn}
 use Rattle.plane_core.specs.declared.strips.Strip.{Strip}
 use Rattle.tile_store.specs.declared.tiles.TileId.{TileId}
 use Rattle.tile_store.specs.Store.{Store}

@@ -1,13 +1,13 @@
 -- What a cut by a column does to seams and ledges.
-use Rattle.std.proofs.Common.{ℤ, pos, ◌≡◌, ◌≢◌, ◌⊎◌, inl, inr, ◌+ℤ◌, ◌≤ℤ◌, refl, sym, subst, ap, ◌∙◌, arith}
+use Rattle.std.proofs.Common.{ℤ, pos, ◌≡◌, ◌⊎◌, inl, inr, ◌+ℤ◌, ◌≤ℤ◌, sym, subst, ap, ◌∙◌, arith}
 use Rattle.std.proofs.lemmas.Int.{ints}
 use Rattle.geo_rect.specs.declared.ids.Label.{Label}
-use Rattle.geo_rect.specs.Axis.{HasNumber, LiesWithin}
+use Rattle.geo_rect.specs.Axis.{HasNumber}
 use Rattle.geo_rect.specs.Plane.{rows}
 use Rattle.plane_core.specs.declared.strips.Strip.{Strip}
 use Rattle.tile_store.specs.declared.tiles.TileId.{TileId}
 use Rattle.tile_store.specs.Store.{Store}
-use Rattle.stitch_walk.specs.Pieces.{IsPiece, IsCut, AreInLine}
+use Rattle.stitch_walk.specs.Pieces.{IsCut, AreInLine}
 use Rattle.tile_paint.specs.Edges.{EndsBefore, BeginsWith, IsSeam, EndsUnder, BeginsOn, IsLedge}
 use Rattle.tile_paint.proofs.Axes.{along, same_rows_within}
 use Rattle.tile_paint.proofs.Cutting.{AfterCut, after_cut}

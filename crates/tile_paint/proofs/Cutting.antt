@@ -21,7 +21,8 @@ one_piece s n p q e f = let g : Some p ≡ Some q = sym e ∙ f in cc
 pub read_piece : (s : Store) (n : TileId) (f : Found) → f.id ≡ n → IsPiece s n f.piece → IsPiece s f.id f.piece
 read_piece s n f e is = let Q : TileId → Type 0 = λ k. IsPiece s k f.piece in subst Q (sym e) is
 
-no_piece : (s : Store) (n : TileId) (p : Strip) → IsPiece s n p → piece_at s n ≡ None → ⊥
+-- a number with a piece is not absent
+pub no_piece : (s : Store) (n : TileId) (p : Strip) → IsPiece s n p → piece_at s n ≡ None → ⊥
 no_piece s n p e f = let g : Some p ≡ None = sym e ∙ f in cc
 
 -- q is part of a piece, and has its label

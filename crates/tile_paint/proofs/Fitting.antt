@@ -1,16 +1,16 @@
 -- After a piece was cut at the edges of a band: what goes through the band, and what lies in the area.
-use Rattle.std.proofs.Common.{ℤ, pos, ◌≡◌, ◌≢◌, ◌⊎◌, inl, inr, ◌+ℤ◌, ◌-ℤ◌, ◌≤ℤ◌, refl, sym, subst, ap, ◌∙◌, arith}
+use Rattle.std.proofs.Common.{ℤ, ◌≡◌, ◌⊎◌, inl, inr, ◌≤ℤ◌, ap, arith}
 use Rattle.std.proofs.lemmas.Int.{ints, clamps}
 use Rattle.geo_rect.specs.declared.shapes.Point.{Point}
 use Rattle.geo_rect.specs.declared.shapes.Rect.{Rect}
 use Rattle.geo_rect.specs.Axis.{HasNumber}
-use Rattle.geo_rect.specs.Plane.{columns, rows, HasPoint, LiesIn}
+use Rattle.geo_rect.specs.Plane.{rows, HasPoint, LiesIn}
 use Rattle.plane_core.specs.declared.strips.Strip.{Strip}
 use Rattle.tile_store.specs.declared.tiles.TileId.{TileId}
 use Rattle.tile_store.specs.Store.{Store}
 use Rattle.stitch_walk.specs.Pieces.{IsPiece, FillDomain}
 use Rattle.tile_paint.specs.declared.spots.Found.{Found}
-use Rattle.tile_paint.specs.Changes.{IsOther, IsNarrowed, IsFitted}
+use Rattle.tile_paint.specs.Changes.{IsNarrowed, IsFitted}
 use Rattle.tile_paint.specs.States.{MeetsFrom, IsInnerFrom, AreTall}
 use Rattle.tile_paint.proofs.Axes.{has_point_in, lies_in_twice}
 use Rattle.tile_paint.proofs.AtPoints.{one_at}

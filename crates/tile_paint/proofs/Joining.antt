@@ -10,7 +10,7 @@ use Rattle.geo_rect.specs.Plane.{columns, rows, rect_of, HasPoint, LiesIn}
 use Rattle.plane_core.specs.declared.strips.Strip.{Strip}
 use Rattle.tile_store.specs.declared.tiles.TileId.{TileId}
 use Rattle.tile_store.specs.Store.{Store}
-use Rattle.stitch_walk.specs.Pieces.{IsPiece, AreInLine, CanJoin, FillDomain, HasLabel, IsCut, IsJoined, HaveSameRows}
+use Rattle.stitch_walk.specs.Pieces.{IsPiece, AreInLine, CanJoin, FillDomain, HasLabel, IsCut, IsJoined}
 use Rattle.tile_paint.specs.declared.spots.Found.{Found}
 use Rattle.tile_paint.specs.Changes.{HaveSameLabels, IsNarrowed, IsFitted}
 use Rattle.tile_paint.specs.States.{Touches, IsOpenFrom, IsReadyFrom, IsBandOf, AreTall, foot, IsLeftEnd, IsRightEnd, IsWidened, IsWide, IsJoining, MeetsFrom, IsInnerFrom}
@@ -81,8 +81,8 @@ module _ (s : Store) (area band : Rect) (label : Label) (wide : Rect) (is_band :
   pub wide_labelled : (x : ℤ) → HasNumber (columns wide) x → HasLabel s (foot band x) label
   wide_labelled x h =
       by_lt_z x band.x0 (λ less. left_labelled x less h.from w.left) (λ more.
-        by_lt_z band.x1 x (λ beyond. right_labelled x beyond h.to w.right) (λ within.
-          ready.painted (foot band x) (in_band area band x is_band more within)))
+      by_lt_z band.x1 x (λ beyond. right_labelled x beyond h.to w.right) (λ within.
+      ready.painted (foot band x) (in_band area band x is_band more within)))
 
   module _ (new : Store) (domain : Rect) (fill_old : FillDomain s domain) (fill : FillDomain new domain) (tall : AreTall s band) (f g : Found) (was : IsPiece s f.id f.piece) (t : IsThrough band wide.x0 f.piece.area) (n : IsNarrowed s new f g) (fitted : IsFitted band f.piece.area g.piece.area) (open_from : IsOpenFrom new area band.y0) where
     high_enough : band.y1 ≤ℤ f.piece.area.y1
@@ -175,8 +175,8 @@ module _ (s : Store) (domain : Rect) (fill_old : FillDomain s domain) (area band
       begins_next =
           let l = fitted.columns.left in let k = t.begins in
           by_lt_z joined.piece.area.x1 g.piece.area.x0
-            (λ less. let r : g.piece.area.x0 ≡ joined.piece.area.x1 +ℤ pos 1 = omega (arith, ints) in r)
-            (λ le. absurd (not_inside le))
+          (λ less. let r : g.piece.area.x0 ≡ joined.piece.area.x1 +ℤ pos 1 = omega (arith, ints) in r)
+          (λ le. absurd (not_inside le))
 
       both_ordered : joined.piece.area.x0 ≤ℤ g.piece.area.x1
       both_ordered = let a = joined.piece.area.x_ordered in let b = g.piece.area.x_ordered in let e = begins_next in omega (arith, ints)

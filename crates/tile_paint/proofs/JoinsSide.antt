@@ -1,17 +1,17 @@
 -- What a join of a piece with the one right of it does to seams, ledges and labels.
-use Rattle.std.proofs.Common.{ℤ, pos, ◌≡◌, ◌≢◌, ◌⊎◌, inl, inr, ◌+ℤ◌, ◌-ℤ◌, ◌≤ℤ◌, refl, sym, subst, ap, ◌∙◌, arith}
+use Rattle.std.proofs.Common.{ℤ, pos, ◌≡◌, ◌⊎◌, inl, inr, ◌+ℤ◌, ◌-ℤ◌, ◌≤ℤ◌, sym, subst, ap, ◌∙◌, arith}
 use Rattle.std.proofs.lemmas.Int.{ints}
 use Rattle.geo_rect.specs.declared.ids.Label.{Label}
 use Rattle.geo_rect.specs.declared.shapes.Point.{Point}
 use Rattle.geo_rect.specs.declared.shapes.Rect.{Rect}
 use Rattle.geo_rect.specs.Axis.{HasNumber}
-use Rattle.geo_rect.specs.Plane.{columns, rows, HasPoint}
+use Rattle.geo_rect.specs.Plane.{rows, HasPoint}
 use Rattle.plane_core.specs.declared.strips.Strip.{Strip}
 use Rattle.tile_store.specs.declared.tiles.TileId.{TileId}
 use Rattle.tile_store.specs.Store.{Store}
-use Rattle.stitch_walk.specs.Pieces.{IsPiece, IsCut, AreInLine, HaveSameRows}
+use Rattle.stitch_walk.specs.Pieces.{IsCut, AreInLine}
 use Rattle.tile_paint.specs.Changes.{HaveSameLabels}
-use Rattle.tile_paint.specs.Edges.{EndsBefore, BeginsWith, IsSeam, EndsUnder, BeginsOn, IsLedge}
+use Rattle.tile_paint.specs.Edges.{EndsBefore, BeginsWith, IsSeam, EndsUnder, BeginsOn}
 use Rattle.tile_paint.specs.States.{IsLedgeFrom, IsOpenFrom, AreTall, Touches}
 use Rattle.tile_paint.proofs.Axes.{line_parts, rows_back}
 use Rattle.tile_paint.proofs.Cutting.{BeforeCut, before_cut, cut_labels}
@@ -79,8 +79,8 @@ module _ (old new : Store) (id other : TileId) (c : IsCut AreInLine new old id o
     open_after_side_join = record {
       seams = λ x y s. open_from.seams x y (join_side_seam x y s);
       ledges = λ first last y s. ledge_at first last y s.label
-        (lower_at first last y s.label s.lower (before_cut AreInLine new old id other c s.lower.by s.lower.piece s.lower.is_piece))
-        (upper_at first last y s.label s.upper (before_cut AreInLine new old id other c s.upper.by s.upper.piece s.upper.is_piece));
+          (lower_at first last y s.label s.lower (before_cut AreInLine new old id other c s.lower.by s.lower.piece s.lower.is_piece))
+          (upper_at first last y s.label s.upper (before_cut AreInLine new old id other c s.upper.by s.upper.piece s.upper.is_piece));
     }
 
   pub side_join_labels : HaveSameLabels old new

@@ -1,15 +1,15 @@
 -- What a join of a piece with the one above it does to seams, ledges and labels.
-use Rattle.std.proofs.Common.{ℤ, pos, ◌≡◌, ◌≢◌, ◌⊎◌, inl, inr, ◌+ℤ◌, ◌≤ℤ◌, refl, sym, subst, ap, ◌∙◌, arith}
+use Rattle.std.proofs.Common.{ℤ, ◌≡◌, ◌⊎◌, inl, inr, ◌≤ℤ◌, refl, sym, subst, ap, ◌∙◌, arith}
 use Rattle.std.proofs.lemmas.Int.{ints}
 use Rattle.geo_rect.specs.declared.ids.Label.{Label}
 use Rattle.geo_rect.specs.declared.shapes.Point.{Point}
 use Rattle.geo_rect.specs.declared.shapes.Rect.{Rect}
 use Rattle.geo_rect.specs.Axis.{HasNumber}
-use Rattle.geo_rect.specs.Plane.{columns, rows, HasPoint}
+use Rattle.geo_rect.specs.Plane.{rows, HasPoint}
 use Rattle.plane_core.specs.declared.strips.Strip.{Strip}
 use Rattle.tile_store.specs.declared.tiles.TileId.{TileId}
 use Rattle.tile_store.specs.Store.{Store}
-use Rattle.stitch_walk.specs.Pieces.{IsPiece, IsCut, AreStacked, FillDomain}
+use Rattle.stitch_walk.specs.Pieces.{IsCut, AreStacked, FillDomain}
 use Rattle.tile_paint.specs.Changes.{HaveSameLabels, IsGrownDown, AreJoinedAt, HasNoLedgeAt}
 use Rattle.tile_paint.specs.Edges.{EndsBefore, BeginsWith, IsSeam, EndsUnder, BeginsOn, IsLedge}
 use Rattle.tile_paint.proofs.Axes.{stacked_parts, in_a_part}

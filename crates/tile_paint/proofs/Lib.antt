@@ -16,3 +16,4 @@ pub mod Banded
 pub mod Widening
 pub mod Capping
 pub mod Rising
+pub mod Alone

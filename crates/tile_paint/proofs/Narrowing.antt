@@ -1,7 +1,5 @@
 -- A piece is cut, and one of its parts is found.
-use Rattle.std.proofs.Common.{◌≡◌, ◌≢◌, ◌⊎◌, inl, inr, Some, IsSome, refl, sym, subst, ap, ◌∙◌}
-use Rattle.geo_rect.specs.declared.ids.Label.{Label}
-use Rattle.geo_rect.specs.declared.shapes.Point.{Point}
+use Rattle.std.proofs.Common.{◌≡◌, ◌≢◌, ◌⊎◌, inl, inr, IsSome, refl, sym, subst, ap, ◌∙◌}
 use Rattle.geo_rect.specs.declared.shapes.Rect.{Rect}
 use Rattle.geo_rect.specs.Plane.{LiesIn}
 use Rattle.plane_core.specs.declared.strips.Strip.{Strip}
@@ -13,7 +11,7 @@ use Rattle.stitch_walk.proofs.Linked.{decide_id}
 use Rattle.tile_paint.specs.declared.spots.Found.{Found}
 use Rattle.tile_paint.specs.Changes.{HaveSameLabels, IsOther, IsNarrowed}
 use Rattle.tile_paint.proofs.Axes.{AreParts, lies_in_itself, lies_in_twice}
-use Rattle.tile_paint.proofs.Cutting.{AfterCut, BeforeCut, after_cut, before_cut, other_is_new, cut_labels, one_piece}
+use Rattle.tile_paint.proofs.Cutting.{AfterCut, after_cut, other_is_new, cut_labels, one_piece}
 use Rattle.tile_paint.proofs.Cutting.AfterCut.{is_first, is_second, is_kept}
 
 -- where there are the same tiles there are the same pieces

@@ -1,5 +1,5 @@
 -- The area is cut out of one tile after the other.
-use Rattle.std.proofs.Common.{ℕ, zero, suc, ℤ, ◌≡◌, ◌≢◌, ◌⊎◌, ◌<◌, ◌≤◌, ◌+◌, inl, inr, List, [], ◌∷◌, length, get_or, drop, add-one, Contains, AllPairs, refl, sym, subst, ap, ◌∙◌, arith}
+use Rattle.std.proofs.Common.{ℕ, zero, suc, ℤ, ◌≡◌, ◌≢◌, ◌⊎◌, ◌<◌, ◌+◌, inl, inr, List, [], ◌∷◌, length, get_or, drop, add-one, Contains, refl, sym, subst, ◌∙◌, arith}
 use Rattle.std.proofs.Math.Seq.{drop-cons}
 use Rattle.geo_rect.specs.declared.ids.Label.{Label}
 use Rattle.geo_rect.specs.declared.shapes.Point.{Point}
@@ -8,18 +8,17 @@ use Rattle.geo_rect.specs.Plane.{HasPoint, LiesIn, IsMeet}
 use Rattle.geo_rect.proofs.Parts.{lies_in_from}
 use Rattle.plane_core.specs.declared.strips.Strip.{Strip}
 use Rattle.plane_core.specs.Choice.{Meets}
-use Rattle.plane_core.specs.LocalForm.{IsSideDefect, IsStackDefect}
-use Rattle.plane_core.proofs.Members.{has_head, has_tail, has_cases, has_none}
+use Rattle.plane_core.proofs.Members.{has_tail, has_cases, has_none}
 use Rattle.tile_store.specs.declared.tiles.TileId.{TileId}
 use Rattle.tile_store.specs.Store.{Store}
 use Rattle.stitch_walk.specs.Maximal.{AreMaximal}
 use Rattle.stitch_walk.specs.Neighbours.{AreMeeting, MeetsArea, IsDistinct}
-use Rattle.stitch_walk.specs.Pieces.{IsPiece, IsRelabelled, HasLabel, FillDomain, IsOfPiece, piece_at}
+use Rattle.stitch_walk.specs.Pieces.{IsPiece, IsRelabelled, FillDomain}
 use Rattle.stitch_walk.proofs.Filled.{tile_of, piece_of_tile}
 use Rattle.tile_paint.specs.declared.spots.Found.{Found}
 use Rattle.tile_paint.specs.Changes.{IsOther, IsNarrowed, IsPainted, IsCutOut}
 use Rattle.tile_paint.specs.Edges.{IsSeam, IsLedge}
-use Rattle.tile_paint.specs.States.{MeetsUnder, MeetsFrom, IsInnerFrom, IsOpenFrom, IsReadyFrom, IsCuttingOut}
+use Rattle.tile_paint.specs.States.{MeetsUnder, IsOpenFrom, IsReadyFrom, IsCuttingOut}
 use Rattle.tile_paint.proofs.Axes.{has_point_in}
 use Rattle.tile_paint.proofs.Cutting.{one_piece}
 use Rattle.tile_paint.proofs.Relabelling.{AfterRelabel, after_relabel, relabelled, label_outside, open_after_relabel}

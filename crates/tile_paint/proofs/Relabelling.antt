@@ -1,5 +1,5 @@
 -- What another label of a piece does to seams, ledges and labels.
-use Rattle.std.proofs.Common.{ℤ, pos, ◌≡◌, ◌≢◌, ◌⊎◌, inl, inr, ◌+ℤ◌, ◌≤ℤ◌, refl, sym, subst, ap, ◌∙◌, arith}
+use Rattle.std.proofs.Common.{ℤ, ◌≡◌, ◌≢◌, ◌⊎◌, inl, inr, sym, subst, ap, ◌∙◌, arith}
 use Rattle.std.proofs.lemmas.Int.{ints}
 use Rattle.geo_rect.specs.declared.ids.Label.{Label}
 use Rattle.geo_rect.specs.declared.shapes.Point.{Point}
@@ -11,9 +11,9 @@ use Rattle.tile_store.specs.declared.tiles.TileId.{TileId}
 use Rattle.tile_store.specs.Store.{Store}
 use Rattle.stitch_walk.specs.Pieces.{IsPiece, IsRelabelled, HasLabel}
 use Rattle.stitch_walk.proofs.Linked.{decide_id}
-use Rattle.tile_paint.specs.Edges.{EndsBefore, BeginsWith, IsSeam, EndsUnder, BeginsOn, IsLedge}
+use Rattle.tile_paint.specs.Edges.{EndsBefore, BeginsWith, EndsUnder, BeginsOn}
 use Rattle.tile_paint.specs.States.{IsSeamFrom, IsLedgeFrom, IsOpenFrom}
-use Rattle.tile_paint.proofs.Axes.{along, has_point_in}
+use Rattle.tile_paint.proofs.Axes.{along}
 use Rattle.tile_paint.proofs.Cutting.{one_piece}
 
 module _ (old new : Store) (id : TileId) (label : Label) (r : IsRelabelled old new id label) where
@@ -91,11 +91,11 @@ module _ (old new : Store) (id : TileId) (label : Label) (r : IsRelabelled old n
     pub open_after_relabel : IsOpenFrom new area area.y0
     open_after_relabel = record {
       seams = λ x y s. seam_at x y s.label
-        (left_at x y s.label s.left (after_relabel s.left.by s.left.piece s.left.is_piece))
-        (right_at x y s.label s.right (after_relabel s.right.by s.right.piece s.right.is_piece));
+          (left_at x y s.label s.left (after_relabel s.left.by s.left.piece s.left.is_piece))
+          (right_at x y s.label s.right (after_relabel s.right.by s.right.piece s.right.is_piece));
       ledges = λ first last y s. ledge_at first last y s.label
-        (lower_at first last y s.label s.lower (after_relabel s.lower.by s.lower.piece s.lower.is_piece))
-        (upper_at first last y s.label s.upper (after_relabel s.upper.by s.upper.piece s.upper.is_piece));
+          (lower_at first last y s.label s.lower (after_relabel s.lower.by s.lower.piece s.lower.is_piece))
+          (upper_at first last y s.label s.upper (after_relabel s.upper.by s.upper.piece s.upper.is_piece));
     }
 
   -- a point outside of the piece keeps its label

@@ -1,9 +1,8 @@
 -- After a band was joined, sideways and with what is below it, all is maximal below the row after it; and
 -- after the last band was joined with what is above it, all is maximal.
-use Rattle.std.proofs.Common.{ℤ, pos, ◌≡◌, ◌⊎◌, inl, inr, ◌+ℤ◌, ◌-ℤ◌, ◌≤ℤ◌, ◌<ℤ◌, refl, sym, subst, ap, ◌∙◌, arith}
+use Rattle.std.proofs.Common.{ℤ, pos, ◌≡◌, ◌⊎◌, inl, inr, ◌+ℤ◌, ◌-ℤ◌, ◌≤ℤ◌, ◌<ℤ◌, refl, subst, ap, arith}
 use Rattle.std.proofs.lemmas.Int.{ints, by_lt_z}
 use Rattle.geo_rect.specs.declared.ids.Label.{Label}
-use Rattle.geo_rect.specs.declared.shapes.Point.{Point}
 use Rattle.geo_rect.specs.declared.shapes.Rect.{Rect}
 use Rattle.geo_rect.specs.Axis.{HasNumber}
 use Rattle.geo_rect.specs.Plane.{columns, rows, HasPoint, LiesIn}
@@ -14,14 +13,12 @@ use Rattle.tile_store.specs.Store.{Store}
 use Rattle.stitch_walk.specs.Maximal.{AreMaximal}
 use Rattle.stitch_walk.specs.Pieces.{IsPiece, FillDomain, HasLabel}
 use Rattle.tile_paint.specs.Changes.{IsGrownDown, AreJoinedAt, IsFreeOfLedges}
-use Rattle.tile_paint.specs.Edges.{EndsBefore, BeginsWith, IsSeam, EndsUnder, BeginsOn, IsLedge}
-use Rattle.tile_paint.specs.States.{IsSeamFrom, IsLedgeFrom, IsOpenFrom, IsReadyFrom, IsBandOf, IsBandJoined, MeetsFrom, IsInnerFrom, AreInnerFrom, AreaHasLabel}
+use Rattle.tile_paint.specs.Edges.{IsSeam, IsLedge}
+use Rattle.tile_paint.specs.States.{IsLedgeFrom, IsReadyFrom, IsBandOf, IsBandJoined, MeetsFrom, IsInnerFrom, AreaHasLabel}
+use Rattle.tile_paint.proofs.Axes.{spot}
 use Rattle.tile_paint.proofs.AtPoints.{one_at, label_of_piece, has_lower}
 use Rattle.tile_paint.proofs.JoinsUp.{has_upper}
 use Rattle.tile_paint.proofs.Outlining.{maximal_from_none}
-
-abbrev spot : ℤ → ℤ → Point
-spot x y = record { x = x; y = y }
 
 module _ (s : Store) (domain : Rect) (fill : FillDomain s domain) (area : Rect) (label : Label) (painted : AreaHasLabel s area label) where
   module _ (n : TileId) (q : Strip) (e : IsPiece s n q) (z : ℤ) (in_row : HasNumber (rows area) z) (h : HasPoint q.area (spot q.area.x0 z)) (after : area.x0 <ℤ q.area.x0) (within : q.area.x0 ≤ℤ area.x1) where
@@ -65,12 +62,12 @@ module _ (s : Store) (row : Rect) (free : IsFreeOfLedges s row) (first last : �
   ledge_within =
       let o = ordered in
       by_lt_z row.x0 first
-        (λ after. by_lt_z row.x1 first
-          (λ beyond. absurd (free.after first last k (omega (arith, ints)) (omega (arith, ints))))
-          (λ within. let r : BeginsWithin row first last = record { after = after; within = within } in r))
-        (λ most. by_lt_z first row.x0
-          (λ less. absurd (free.before first last k (omega (arith, ints)) (omega (arith, ints))))
-          (λ at. absurd (free.at_first first last k (omega (arith, ints)) (omega (arith, ints)))))
+      (λ after. by_lt_z row.x1 first
+      (λ beyond. absurd (free.after first last k (omega (arith, ints)) (omega (arith, ints))))
+      (λ within. let r : BeginsWithin row first last = record { after = after; within = within } in r))
+      (λ most. by_lt_z first row.x0
+      (λ less. absurd (free.before first last k (omega (arith, ints)) (omega (arith, ints))))
+      (λ at. absurd (free.at_first first last k (omega (arith, ints)) (omega (arith, ints)))))
 
 module _ (s t : Store) (domain : Rect) (fill : FillDomain t domain) (area band : Rect) (label : Label) (is_band : IsBandOf area band) (b : IsBandJoined s area band) (j : AreJoinedAt s t band.y0) (free : IsFreeOfLedges t band) (painted : AreaHasLabel t area label) where
   none_at_band : (first last : ℤ) → IsLedge t first last band.y0 → ⊥
@@ -150,7 +147,7 @@ module _ (s t : Store) (domain : Rect) (fill : FillDomain t domain) (area row : 
       let R : ℤ → Type 0 = λ z. HasPoint k.lower.piece.area (spot k.lower.piece.area.x0 z) in
       let painted : AreaHasLabel t area label = λ p v. j.labels.onward p label (ready.painted p v) in
       none_left k.lower.piece.area.x0 area.y1
-        (has_seam t domain fill area label painted k.lower.by k.lower.piece k.lower.is_piece area.y1 (record { from = o; to = omega (arith, ints) }) (subst R last_row (subst Q e h)) (omega (arith, ints)) (omega (arith, ints)))
+      (has_seam t domain fill area label painted k.lower.by k.lower.piece k.lower.is_piece area.y1 (record { from = o; to = omega (arith, ints) }) (subst R last_row (subst Q e h)) (omega (arith, ints)) (omega (arith, ints)))
 
   none_stacked : (first last y : ℤ) → IsLedge t first last y → ⊥
   none_stacked first last y k =

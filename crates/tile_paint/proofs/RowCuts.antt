@@ -1,20 +1,19 @@
 -- What a cut by a row, and a join upwards, do to seams and ledges.
-use Rattle.std.proofs.Common.{ℤ, pos, ◌≡◌, ◌≢◌, ◌⊎◌, inl, inr, ◌+ℤ◌, refl, sym, subst, ap, ◌∙◌, arith}
+use Rattle.std.proofs.Common.{ℤ, ◌≡◌, ◌⊎◌, inl, inr, refl, sym, subst, ap, ◌∙◌, arith}
 use Rattle.std.proofs.lemmas.Int.{ints}
 use Rattle.geo_rect.specs.declared.ids.Label.{Label}
 use Rattle.geo_rect.specs.declared.shapes.Rect.{Rect}
-use Rattle.geo_rect.specs.Axis.{HasNumber, LiesWithin}
+use Rattle.geo_rect.specs.Axis.{LiesWithin}
 use Rattle.geo_rect.specs.Plane.{rows}
 use Rattle.plane_core.specs.declared.strips.Strip.{Strip}
 use Rattle.plane_core.specs.LocalForm.{HaveSameColumns}
 use Rattle.tile_store.specs.declared.tiles.TileId.{TileId}
 use Rattle.tile_store.specs.Store.{Store}
 use Rattle.stitch_walk.specs.Pieces.{IsPiece, IsCut, AreStacked}
-use Rattle.tile_paint.specs.Edges.{EndsBefore, BeginsWith, IsSeam, EndsUnder, BeginsOn, IsLedge}
-use Rattle.tile_paint.proofs.Axes.{along, first_within, second_within, in_a_part, in_itself}
-use Rattle.tile_paint.proofs.Cutting.{AfterCut, BeforeCut, after_cut, before_cut}
+use Rattle.tile_paint.specs.Edges.{IsSeam, EndsUnder, BeginsOn, IsLedge}
+use Rattle.tile_paint.proofs.Axes.{along, first_within, second_within, in_itself}
+use Rattle.tile_paint.proofs.Cutting.{AfterCut, after_cut}
 use Rattle.tile_paint.proofs.Cutting.AfterCut.{is_first, is_second, is_kept}
-use Rattle.tile_paint.proofs.Cutting.BeforeCut.{is_whole, stays}
 
 -- some rows of r, in all its columns
 pub record AreRowsOf (part r : Rect) : Type 0 where

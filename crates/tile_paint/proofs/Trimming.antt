@@ -1,11 +1,11 @@
 -- What is left of a piece after it was cut at an edge of the band or of the area.
-use Rattle.std.proofs.Common.{ℤ, pos, ◌≡◌, ◌+ℤ◌, ◌≤ℤ◌, ◌<ℤ◌, sym, subst, ap, ◌∙◌, refl, arith}
+use Rattle.std.proofs.Common.{ℤ, pos, ◌≡◌, ◌+ℤ◌, ◌≤ℤ◌, ◌<ℤ◌, sym, subst, ◌∙◌, refl, arith}
 use Rattle.std.specs.Int.{int_max, int_min}
 use Rattle.std.proofs.lemmas.Int.{ints, clamps}
 use Rattle.geo_rect.specs.declared.shapes.Rect.{Rect}
 use Rattle.geo_rect.specs.declared.shapes.Interval.{Interval}
-use Rattle.geo_rect.specs.Axis.{HasNumber, IsOverlap, LiesWithin}
-use Rattle.geo_rect.specs.Plane.{columns, rows, HasPoint, IsMeet}
+use Rattle.geo_rect.specs.Axis.{IsOverlap, LiesWithin}
+use Rattle.geo_rect.specs.Plane.{columns, rows, IsMeet}
 use Rattle.plane_core.specs.Choice.{Meets}
 use Rattle.plane_core.specs.declared.strips.Strip.{Strip}
 use Rattle.plane_core.specs.LocalForm.{HaveSameColumns}

@@ -1,5 +1,5 @@
 -- The band with the columns next to it that have the label.
-use Rattle.std.proofs.Common.{ℤ, pos, ◌≡◌, ◌<◌, ◌<ℤ◌, ◌⊎◌, inl, inr, ◌+ℤ◌, ◌-ℤ◌, ◌≤ℤ◌, sym, subst, ◌∙◌, arith}
+use Rattle.std.proofs.Common.{ℤ, pos, ◌≡◌, ◌<◌, ◌<ℤ◌, ◌-ℤ◌, sym, subst, arith}
 use Rattle.std.proofs.lemmas.Int.{ints, clamps}
 use Rattle.std.specs.Int.{int_max}
 use Rattle.std.specs.Int.RustNames.{unsigned_abs}
@@ -12,7 +12,7 @@ use Rattle.geo_rect.specs.Plane.{columns, rows, HasPoint, LiesIn}
 use Rattle.plane_core.specs.Labels.{IsSmall, IsWithinReach}
 use Rattle.tile_store.specs.Store.{Store}
 use Rattle.stitch_walk.specs.Pieces.{HasLabel}
-use Rattle.tile_paint.specs.States.{foot, IsBandOf, IsLeftEnd, IsRightEnd, IsWidenedLeft, IsWidened}
+use Rattle.tile_paint.specs.States.{foot, IsBandOf, IsLeftEnd, IsWidenedLeft}
 
 -- a label at a point is a label at the point of the same column and row
 pub label_at_foot : (s : Store) (band : Rect) (label : Label) (p : Point) (x : ℤ) → p.x ≡ x → p.y ≡ band.y0 → HasLabel s p label → HasLabel s (foot band x) label

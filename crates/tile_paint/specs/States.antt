@@ -1,5 +1,5 @@
 -- What holds between the steps of painting: how far the tiles around the area are maximal already.
-use Rattle.std.specs.Prelude.{ℤ, pos, ◌≡◌, ◌≢◌, ◌⊎◌, ◌+ℤ◌, ◌-ℤ◌, ◌≤ℤ◌, List, Contains}
+use Rattle.std.specs.Prelude.{ℤ, pos, ◌≡◌, ◌⊎◌, ◌+ℤ◌, ◌-ℤ◌, ◌≤ℤ◌, List, Contains}
 use Rattle.geo_rect.specs.declared.ids.Label.{Label}
 use Rattle.geo_rect.specs.declared.shapes.Point.{Point}
 use Rattle.geo_rect.specs.declared.shapes.Rect.{Rect}

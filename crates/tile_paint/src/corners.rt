@@ -70,10 +70,7 @@ pub fn point_below(r: Rect, p: Point) -> Point
     ensures x { result.x ≡ p.x }
     ensures y { result.y ≡ p.y -ℤ pos 1 }
 {
-    Point {
-        x: p.x,
-        y: p.y - 1,
-    }
+    Point { x: p.x, y: p.y - 1 }
 }
 
 /// The row after the last one of `r`, where `s` goes on.

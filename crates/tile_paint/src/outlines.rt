@@ -9,7 +9,7 @@ ghost use Rattle.stitch_walk.specs.Pieces.{HasLabel};
 ghost use Rattle.tile_paint.specs.Changes.{IsCutOut};
 ghost use Rattle.tile_paint.specs.States.{MeetsUnder, IsOpenFrom, IsReadyFrom};
 
-use crate::spots::read;
+use crate::spots::{read, tiles_fill};
 use crate::trims::crop;
 use geo_rect::{Label, NoMemory, Rect};
 use std::alloc::Global;
@@ -69,7 +69,7 @@ fn cut_out_all(t: &mut Tiling, ids: &[TileId], area: Rect, label: Label) -> Resu
     for id in ids {
         cut_out_tile(t, *id, area, label)?;
     }
-    let _hint = t.hint();
+    tiles_fill(t);
     Ok(())
 }
 

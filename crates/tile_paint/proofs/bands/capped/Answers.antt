@@ -1,4 +1,4 @@
-use Rattle.tile_paint.proofs.Capping.{capped_nowhere, capped_at}
+use Rattle.tile_paint.proofs.Capping.{capped_nowhere}
 use Rattle.tile_paint.proofs.bands.capped.Goals as goal
 
 pub returns-in_default : goal.returns-in_default

@@ -1,5 +1,4 @@
-use Rattle.std.proofs.Common.{pos, ◌≡◌, ◌+ℤ◌, ◌≤ℤ◌, ◌<ℤ◌, arith}
-use Rattle.std.proofs.lemmas.Int.{ints, by_lt_z}
+use Rattle.std.proofs.Common.{pos, ◌+ℤ◌}
 use Rattle.stitch_walk.proofs.Reaching.{when_true, when_false}
 use Rattle.tile_paint.proofs.Axes.{less_from}
 use Rattle.tile_paint.proofs.Capping.{capping_begins, row_of_band, capping_goes_on, further, capping_ends_outside, capping_ends_past, columns_left_fall}

@@ -1,4 +1,4 @@
-use Rattle.std.proofs.Common.{ℤ, pos, ◌≡◌, ◌+ℤ◌, ◌≤ℤ◌, ◌<ℤ◌, ◌∙◌, subst, arith}
+use Rattle.std.proofs.Common.{ℤ, pos, ◌+ℤ◌, ◌∙◌, subst, arith}
 use Rattle.std.proofs.lemmas.Int.{ints}
 use Rattle.stitch_walk.proofs.Reaching.{when_true, when_false}
 use Rattle.tile_paint.specs.States.{IsReadyFrom}

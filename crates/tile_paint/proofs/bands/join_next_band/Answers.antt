@@ -1,4 +1,4 @@
-use Rattle.std.proofs.Common.{ℤ, ◌≡◌, sym, subst}
+use Rattle.std.proofs.Common.{ℤ, sym, subst}
 use Rattle.tile_paint.specs.States.{IsReadyFrom}
 use Rattle.tile_paint.proofs.Narrowing.{labels_twice}
 use Rattle.tile_paint.proofs.Rising.{ready_above}

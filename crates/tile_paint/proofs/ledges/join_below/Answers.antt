@@ -1,4 +1,3 @@
-use Rattle.std.proofs.Common.{◌≡◌, arith}
 use Rattle.stitch_walk.proofs.Reaching.{when_true, when_false}
 use Rattle.tile_paint.proofs.AtPoints.{none_outside, none_through, none_at_bottom, none_unlike, can_join_up, joined_at, gone_at, joined_not}
 use Rattle.tile_paint.proofs.ledges.join_below.Goals as goal

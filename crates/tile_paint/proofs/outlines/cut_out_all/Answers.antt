@@ -1,9 +1,8 @@
-use Rattle.std.proofs.Common.{◌≡◌, ◌<◌, ◌≤◌, ◌+◌, ◌∙◌, List, [], ◌∷◌, length, drop, refl, sym, subst, slice_index_or, arith}
+use Rattle.std.proofs.Common.{◌≤◌, ◌+◌, ◌∙◌, List, ◌∷◌, length, drop, refl, sym, subst, slice_index_or, arith}
 use Rattle.std.proofs.lemmas.List.{drop_all}
 use Rattle.geo_rect.specs.declared.shapes.Rect.{Rect}
 use Rattle.geo_rect.specs.Plane.{LiesIn}
 use Rattle.plane_core.proofs.Members.{has_head}
-use Rattle.stitch_walk.proofs.Filled.{filled}
 use Rattle.tile_store.specs.declared.tiles.TileId.{TileId}
 use Rattle.tile_paint.specs.States.{IsCuttingOut}
 use Rattle.tile_paint.proofs.Outlining.{cutting_begins, cutting_goes_on, cutting_ends, waiting_next}
@@ -39,6 +38,6 @@ returns-clause-ready c =
     let P : List TileId → Type 0 = λ l. IsCuttingOut c.args.t.now.store c.loop-id.t.store c.args.area c.args.label l in
     let Q : Rect → Type 0 = λ r. LiesIn c.args.area r in
     cutting_ends c.args.t.now.store c.loop-id.t.store c.loop-id.t.domain c.args.area c.args.label
-    (filled c.loop-id.t.store c.loop-id.t.domain c.hint-hint.ensures.tiling)
+    c.tiles_fill.ensures.filled
     (subst Q (sym c.loop-id.invariant.domain) c.requires.inside)
     (subst P (drop_all c.loop-id.id-index c.args.ids.now past) c.loop-id.invariant.cutting)

@@ -1,5 +1,4 @@
 use Rattle.std.proofs.Common.{◌≡◌, true, false}
-use Rattle.geo_rect.specs.Plane.{HasPoint}
 use Rattle.tile_paint.proofs.Axes.{has_point_in}
 use Rattle.tile_paint.proofs.AtPoints.{labelled_inside, label_of_piece}
 use Rattle.tile_paint.proofs.spots.has_label.Goals as goal

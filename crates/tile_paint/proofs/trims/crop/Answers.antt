@@ -1,4 +1,3 @@
-use Rattle.std.proofs.Common.{◌≡◌, ◌≤ℤ◌, sym, subst}
 use Rattle.std.proofs.lemmas.Result.{IfOk-weaker}
 use Rattle.tile_paint.proofs.Narrowing.{narrowed_twice}
 use Rattle.tile_paint.proofs.Trimming.{across_from, area_is_band, cropped, fitted_within, same_rows_inside, begins_still, ends_still, fitted_columns}

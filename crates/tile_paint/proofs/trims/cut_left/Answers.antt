@@ -1,4 +1,4 @@
-use Rattle.std.proofs.Common.{ℤ, ◌≡◌, subst, ◌≤ℤ◌, ◌<ℤ◌, w32, to_z, of_z, arith}
+use Rattle.std.proofs.Common.{ℤ, ◌≡◌, subst, ◌<ℤ◌, w32, to_z, of_z, arith}
 use Rattle.std.proofs.lemmas.Int.{ints}
 use Rattle.tile_paint.specs.Changes.{IsRightFrom}
 use Rattle.stitch_walk.proofs.Reaching.{when_true, when_false}

@@ -1,4 +1,4 @@
-use Rattle.std.proofs.Common.{pos, ◌≡◌, ◌+ℤ◌, ◌≤ℤ◌, ◌<ℤ◌, ◌∙◌, w32, to_z, of_z, arith}
+use Rattle.std.proofs.Common.{pos, ◌≡◌, ◌+ℤ◌, ◌<ℤ◌, ◌∙◌, w32, to_z, of_z, arith}
 use Rattle.std.proofs.lemmas.Int.{ints}
 use Rattle.stitch_walk.proofs.Reaching.{when_true, when_false}
 use Rattle.tile_paint.proofs.Axes.{at_least}

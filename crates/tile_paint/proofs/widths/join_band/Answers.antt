@@ -1,7 +1,6 @@
-use Rattle.std.proofs.Common.{◌≡◌, ◌≤ℤ◌, ◌∙◌, subst, sym}
+use Rattle.std.proofs.Common.{◌∙◌, subst, sym}
 use Rattle.geo_rect.specs.declared.shapes.Rect.{Rect}
 use Rattle.geo_rect.specs.Plane.{LiesIn}
-use Rattle.stitch_walk.specs.Pieces.{FillDomain}
 use Rattle.stitch_walk.proofs.Reaching.{when_true, when_false}
 use Rattle.tile_paint.proofs.Axes.{at_least}
 use Rattle.tile_paint.proofs.Banded.{band_joined}

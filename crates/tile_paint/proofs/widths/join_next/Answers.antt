@@ -1,5 +1,4 @@
-use Rattle.std.proofs.Common.{◌≡◌, ◌≤ℤ◌, ◌∙◌, refl, sym, subst, arith}
-use Rattle.std.proofs.lemmas.Int.{ints}
+use Rattle.std.proofs.Common.{◌∙◌, refl, subst}
 use Rattle.geo_rect.specs.declared.shapes.Rect.{Rect}
 use Rattle.stitch_walk.specs.Pieces.{FillDomain}
 use Rattle.tile_paint.proofs.Joining.{is_through, through_touches, through_ends, wide_in_domain, next_in_wide, can_join_next, labels_kept, joining_goes_on, next_wider}

@@ -1,4 +1,4 @@
-use Rattle.std.proofs.Common.{ℤ, pos, ◌≡◌, ◌-ℤ◌, ◌+ℤ◌, ◌∙◌, sym, inl, inr, arith}
+use Rattle.std.proofs.Common.{pos, ◌≡◌, ◌+ℤ◌, ◌∙◌, sym, inl, inr, arith}
 use Rattle.std.proofs.lemmas.Int.{ints}
 use Rattle.stitch_walk.proofs.Reaching.{when_true, when_false}
 use Rattle.tile_paint.proofs.Widening.{label_at_foot, label_from_foot, one_more_right, left_end_of}

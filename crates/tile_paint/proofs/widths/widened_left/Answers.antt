@@ -1,4 +1,4 @@
-use Rattle.std.proofs.Common.{ℤ, pos, ◌≡◌, ◌-ℤ◌, inl, arith}
+use Rattle.std.proofs.Common.{pos, ◌≡◌, ◌-ℤ◌, inl, arith}
 use Rattle.std.proofs.lemmas.Int.{ints}
 use Rattle.stitch_walk.proofs.Reaching.{when_true}
 use Rattle.tile_paint.proofs.Widening.{label_at_foot, one_more_left}
