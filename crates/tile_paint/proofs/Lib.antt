@@ -16,4 +16,3 @@ pub mod Banded
 pub mod Widening
 pub mod Capping
 pub mod Rising
-pub mod Alone

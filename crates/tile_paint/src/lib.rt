@@ -13,6 +13,3 @@ mod trims;
 mod widths;
 
 pub use paints::paint;
-
-#[cfg(test)]
-mod tests;
