@@ -1,16 +1,21 @@
 -- A number is determined by its digits, and ends where a byte stands that is no digit.
-use Rattle.std.proofs.Common.{◌≡◌, ◌≢◌, ℕ, ◌<◌, ◌≤◌, ◌^◌, List, ◌∷◌, [], ◌++◌, ◌+◌, ◌%◌, decimal, Ok, Result, All, refl, sym, ap, ◌∙◌, arith, subst}
+use Rattle.std.proofs.Common.{◌≡◌, ◌≢◌, ℕ, ◌<◌, ◌≤◌, ◌^◌, List, ◌∷◌, [], ◌++◌, ◌+◌, ◌%◌, decimal, Ok, Result, All, ◌⊎◌, inl, inr, refl, sym, ap, ◌∙◌, arith, subst}
 use Rattle.std.specs.Str.Parse.{ParsesUnsigned, digits_value}
 use Rattle.std.proofs.lemmas.Fmt.{parse-decimal_wide, decimal_is_IsNumeral_wide, decimal_by_steps_wide}
 use Rattle.std.proofs.lemmas.List.Elements.{recursion_from_All}
 use Rattle.std.specs.List.{AllByRecursion as ByRecursion}
 
-digits_below : (n : ℕ) → n < 10 ^ 64 → ByRecursion (λ c. c ≤ 57) (decimal n)
-digits_below = decimal_by_steps_wide (λ (n : ℕ) (ds : List ℕ). ByRecursion (λ c. c ≤ 57) ds)
-    (λ n lt. (omega arith, tt)) (λ n ds ge h. more ds n h)
+-- a digit
+record IsDigit (c : ℕ) : Type 0 where
+  least : 48 ≤ c
+  most : c ≤ 57
+
+digits : (n : ℕ) → n < 10 ^ 64 → ByRecursion IsDigit (decimal n)
+digits = decimal_by_steps_wide (λ (n : ℕ) (ds : List ℕ). ByRecursion IsDigit ds)
+    (λ n lt. (record { least = omega arith; most = omega arith }, tt)) (λ n ds ge h. more ds n h)
   where
-    more : (ds : List ℕ) (n : ℕ) → ByRecursion (λ c. c ≤ 57) ds → ByRecursion (λ c. c ≤ 57) (ds ++ (48 + n % 10) ∷ [])
-    more [] n h = (omega arith, tt)
+    more : (ds : List ℕ) (n : ℕ) → ByRecursion IsDigit ds → ByRecursion IsDigit (ds ++ (48 + n % 10) ∷ [])
+    more [] n h = (record { least = omega arith; most = omega arith }, tt)
     more (x ∷ ds) n h = (h.0, more ds n h.1)
 
 pub same_decimal : (m n : ℕ) → m < 10 ^ 64 → n < 10 ^ 64 → decimal m ≡ decimal n → m ≡ n
@@ -23,12 +28,19 @@ not_decimal word n v r lt is parsed ok =
     let read : r ≡ Ok n = parse-decimal_wide 64 n word r lt wide (sym is) parsed in
     let both : Ok n ≡ Ok v = sym read ∙ ok in cc
 
-not_end : (end : ℕ) (ds : List ℕ) → 57 < end → ByRecursion (λ c. c ≤ 57) ds → ByRecursion (λ c. c ≢ end) ds
-not_end end [] lt h = tt
-not_end end (d ∷ ds) lt h = ((λ e. absurd (omega (arith, e, h.0))), not_end end ds lt h.1)
+not_byte : (b : ℕ) (ds : List ℕ) → (b < 48) ⊎ (57 < b) → ByRecursion IsDigit ds → ByRecursion (λ c. c ≢ b) ds
+not_byte b [] far h = tt
+not_byte b (d ∷ ds) far h = ((λ e. from far e h.0), not_byte b ds far h.1)
+  where
+    from : (b < 48) ⊎ (57 < b) → d ≡ b → IsDigit d → ⊥
+    from (inl lt) e is = absurd (omega arith)
+    from (inr lt) e is = absurd (omega arith)
 
 decimal_ends : (end n : ℕ) → 57 < end → n < 10 ^ 64 → ByRecursion (λ c. c ≢ end) (decimal n)
-decimal_ends end n lt wide = not_end end (decimal n) lt (digits_below n wide)
+decimal_ends end n lt wide = not_byte end (decimal n) (inr lt) (digits n wide)
+
+pub no_feed : (n : ℕ) → n < 10 ^ 64 → ByRecursion (λ c. c ≢ 10) (decimal n)
+no_feed n wide = not_byte 10 (decimal n) (inl (omega arith)) (digits n wide)
 
 cut_once : (end : ℕ) (xs ys s t : List ℕ) → ByRecursion (λ c. c ≢ end) xs → ByRecursion (λ c. c ≢ end) ys
     → xs ++ end ∷ s ≡ ys ++ end ∷ t → (xs ≡ ys) × (s ≡ t)

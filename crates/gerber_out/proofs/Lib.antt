@@ -1,2 +1,6 @@
 pub mod Cutting
 pub mod Decimals
+pub mod Draws
+pub mod Filling
+pub mod Once
+pub mod Steps

@@ -1,10 +1,10 @@
-ghost use Rattle.std.specs.Prelude.{◌≡◌, ◌∷◌, ◌++◌, ℕ, List, OnOk, IfSome, IfNone, decimal};
+ghost use Rattle.std.specs.Prelude.{◌≡◌, ◌∷◌, ℕ, List, IfSome, IfNone, IsTrue, ◌↔◌};
 ghost use Rattle.gerber_out.specs.declared.contours.Corner.{Corner};
 ghost use Rattle.gerber_out.specs.declared.spelling.Line.{Line};
 ghost use Rattle.gerber_out.specs.declared.spelling.Line.TheVariants.{Draw};
 ghost use Rattle.gerber_out.specs.declared.spelling.Pen.{Pen};
 ghost use Rattle.gerber_out.specs.declared.spelling.Word.{Word};
-ghost use Rattle.gerber_out.specs.Spelling.{word_text, pen_text, line_text, IsSpelled};
+ghost use Rattle.gerber_out.specs.Spelling.{word_text, pen_text, IsSpelled};
 
 use crate::contours::{Corner, MOST_UNITS};
 use crate::numbers::{are_alike, number_before};
