@@ -2,5 +2,6 @@ pub mod Cutting
 pub mod Decimals
 pub mod Draws
 pub mod Filling
+pub mod Layering
 pub mod Once
 pub mod Steps

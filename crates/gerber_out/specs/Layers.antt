@@ -46,9 +46,12 @@ region_text r = lines_text (region r)
 abbrev pub first_lines : List Line
 first_lines = Plain Format ∷ Plain Measure ∷ Plain Polarity ∷ Plain Linear ∷ []
 
+unfoldable pub first_text : List ℕ
+first_text = lines_text first_lines
+
 -- the text in which these rectangles are filled
 abbrev pub areas_text : List Rect → List ℕ
-areas_text areas = lines_text first_lines ++ flat_map region_text areas ++ line_text (Plain End)
+areas_text areas = first_text ++ flat_map region_text areas ++ line_text (Plain End)
 
 -- the coordinates of a shape that is wanted are from 0 to 9,999,999
 abbrev pub IsWritable : LayerId → Shape → Type 0

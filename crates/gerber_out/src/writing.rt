@@ -1,7 +1,7 @@
 ghost use Rattle.std.specs.Prelude.{◌≡◌, ◌++◌, ◌<◌, length, OnOk, IfOk, All, codes, decimal};
 ghost use Rattle.std.specs.List.{flat_map};
 ghost use Rattle.gerber_out.specs.Contours.{IsFillable};
-ghost use Rattle.gerber_out.specs.Layers.{areas_text, first_lines, is_wanted, has_area, lines_text, region, region_text, wanted, wanted_of, IsWritable};
+ghost use Rattle.gerber_out.specs.Layers.{areas_text, first_text, is_wanted, has_area, lines_text, region, region_text, wanted, wanted_of, IsWritable};
 ghost use Rattle.gerber_out.specs.Reading.{IsRead};
 ghost use Rattle.gerber_out.specs.Spelling.{line_text};
 
@@ -105,15 +105,26 @@ fn push_shapes(text: &mut List<u8>, shapes: &[Shape], layer: LayerId) -> Result<
     Ok(())
 }
 
-/// The text of a layer: the first lines, a region for each rectangle, and the last line.
+/// Adds the four lines with which each text begins.
+#[tactic(auto, unfolding(crate::specs::Layers::first_text))]
+fn push_first_lines(text: &mut List<u8>) -> Result<(), NoMemory>
+    ensures { OnOk result (text.new ≡ text.old ++ first_text) }
+{
+    let lines = [
+        Line::Plain(Word::Format),
+        Line::Plain(Word::Measure),
+        Line::Plain(Word::Polarity),
+        Line::Plain(Word::Linear),
+    ];
+    push_lines(text, lines.as_slice())
+}
+
+/// Adds the text of a layer: the first lines, a region for each rectangle, and the last line.
 fn push_layer(text: &mut List<u8>, shapes: &[Shape], layer: LayerId) -> Result<(), NoMemory>
     requires { All (IsWritable layer) shapes.now }
     ensures { OnOk result (text.new ≡ text.old ++ areas_text (wanted layer shapes.now)) }
 {
-    push_line(text, Line::Plain(Word::Format))?;
-    push_line(text, Line::Plain(Word::Measure))?;
-    push_line(text, Line::Plain(Word::Polarity))?;
-    push_line(text, Line::Plain(Word::Linear))?;
+    push_first_lines(text)?;
     push_shapes(text, shapes, layer)?;
     push_line(text, Line::Plain(Word::End))
 }
