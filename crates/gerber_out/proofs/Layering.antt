@@ -26,6 +26,7 @@ use Rattle.gerber_out.specs.declared.spelling.Word.TheVariants.{Format, Measure,
 use Rattle.gerber_out.proofs.Cutting.{lines-other}
 use Rattle.gerber_out.proofs.Decimals.{no_feed}
 use Rattle.gerber_out.proofs.Filling.{units_most}
+use Rattle.gerber_out.proofs.Wanted.{wanted_is_fillable}
 
 -- bytes without a line feed before a line are part of it
 lines-onto : (bytes t l : List ℕ) (ls : List (List ℕ)) → ByRecursion (λ c. c ≢ 10) bytes → lines t ≡ l ∷ ls → lines (bytes ++ t) ≡ (bytes ++ l) ∷ ls
@@ -50,10 +51,10 @@ lines-draw p c rest h =
     let y = lines-onto (decimal c.y) (pen_text p ++ rest) (pen_text p) (lines rest) (no_feed c.y (omega (arith, h.up))) (lines-pen p rest) in
     let behind : (decimal c.y ++ pen_text p) ++ rest ≡ decimal c.y ++ (pen_text p ++ rest) = append_assoc (decimal c.y) (pen_text p) rest in
     let tail : lines (89 ∷ ((decimal c.y ++ pen_text p) ++ rest)) ≡ (89 ∷ (decimal c.y ++ pen_text p)) ∷ lines rest =
-        ap (λ (t : List ℕ). onto 89 (lines t)) behind ∙ ap (onto 89) y in
+    ap (λ (t : List ℕ). onto 89 (lines t)) behind ∙ ap (onto 89) y in
     let x = lines-onto (decimal c.x) (89 ∷ ((decimal c.y ++ pen_text p) ++ rest)) (89 ∷ (decimal c.y ++ pen_text p)) (lines rest) (no_feed c.x (omega (arith, h.across))) tail in
     let all : (decimal c.x ++ 89 ∷ (decimal c.y ++ pen_text p)) ++ rest ≡ decimal c.x ++ 89 ∷ ((decimal c.y ++ pen_text p) ++ rest) =
-        append_assoc (decimal c.x) (89 ∷ (decimal c.y ++ pen_text p)) rest in
+    append_assoc (decimal c.x) (89 ∷ (decimal c.y ++ pen_text p)) rest in
     ap (λ (t : List ℕ). onto 88 (lines t)) all ∙ ap (onto 88) x
 
 lines-line : (l : Line) (rest : List ℕ) → IsInRange l → lines (line_text l ++ rest) ≡ line_text l ∷ lines rest
@@ -99,15 +100,42 @@ region_runs r areas h =
     let fa = corner_fits r.x0 r.y0 across.from to_left up.from to_below in
     let fb = corner_fits r.x1 r.y0 from_right across.to up.from to_below in
     let fd = corner_fits r.x1 r.y1 from_right across.to from_above up.to in
-    let fe = corner_fits r.x0 r.y1 across.from to_left from_above up.to in
-    (inside areas [], tt, record { before = refl; after = refl },
-     (inside areas (a ∷ []), fa, record { none = refl; more = record { before = refl; after = refl } },
-      (inside areas (a ∷ b ∷ []), fb, record { some = omega arith; few = omega arith; more = record { before = refl; after = refl } },
-       (inside areas (a ∷ b ∷ d ∷ []), fd, record { some = omega arith; few = omega arith; more = record { before = refl; after = refl } },
-        (inside areas (a ∷ b ∷ d ∷ e ∷ []), fe, record { some = omega arith; few = omega arith; more = record { before = refl; after = refl } },
-         (inside areas (contour r), fa, record { some = omega arith; few = omega arith; more = record { before = refl; after = refl } },
-          (outside (areas ++ r ∷ []), tt, record { area = r; before = refl; drawn = record { fillable = h; same = refl }; after = refl },
-           refl)))))))
+    let fe = corner_fits r.x0 r.y1 across.from to_left from_above up.to in (
+      inside areas [],
+      tt,
+      record { before = refl; after = refl },
+      (
+        inside areas (a ∷ []),
+        fa,
+        record { none = refl; more = record { before = refl; after = refl } },
+        (
+          inside areas (a ∷ b ∷ []),
+          fb,
+          record { some = omega arith; few = omega arith; more = record { before = refl; after = refl } },
+          (
+            inside areas (a ∷ b ∷ d ∷ []),
+            fd,
+            record { some = omega arith; few = omega arith; more = record { before = refl; after = refl } },
+            (
+              inside areas (a ∷ b ∷ d ∷ e ∷ []),
+              fe,
+              record { some = omega arith; few = omega arith; more = record { before = refl; after = refl } },
+              (
+                inside areas (contour r),
+                fa,
+                record { some = omega arith; few = omega arith; more = record { before = refl; after = refl } },
+                (
+                  outside (areas ++ r ∷ []),
+                  tt,
+                  record { area = r; before = refl; drawn = record { fillable = h; same = refl }; after = refl },
+                  refl,
+                ),
+              ),
+            ),
+          ),
+        ),
+      ),
+    )
 
 reads_region : (r : Rect) (areas : List Rect) (rest : List ℕ) (last : Machine) → IsFillable r → Reads (lines rest) (outside (areas ++ r ∷ [])) last
     → Reads (lines (region_text r ++ rest)) (outside areas) last
@@ -119,17 +147,28 @@ reads_regions : (rs areas : List Rect) (rest : List ℕ) (last : Machine) → By
 reads_regions [] areas rest last h next = subst (λ (l : List Rect). Reads (lines rest) (outside l) last) (append-nil areas) next
 reads_regions (r ∷ rs) areas rest last h next =
     let all : Reads (lines rest) (outside ((areas ++ r ∷ []) ++ rs)) last =
-        subst (λ (l : List Rect). Reads (lines rest) (outside l) last) (sym (append_assoc areas (r ∷ []) rs)) next in
+    subst (λ (l : List Rect). Reads (lines rest) (outside l) last) (sym (append_assoc areas (r ∷ []) rs)) next in
     subst (λ (t : List ℕ). Reads (lines t) (outside areas) last) (sym (append_assoc (region_text r) (flat_map region_text rs) rest))
     (reads_region r areas (flat_map region_text rs ++ rest) last h.0 (reads_regions rs (areas ++ r ∷ []) rest last h.1 all))
 
 first_run : Runs first_lines no_lines (outside [])
 unfolding Runs outside
-first_run =
-    (record { stage = Second; contour = []; filled = [] }, tt, record { before = refl; after = refl },
-     (record { stage = Third; contour = []; filled = [] }, tt, record { before = refl; after = refl },
-      (record { stage = Fourth; contour = []; filled = [] }, tt, record { before = refl; after = refl },
-       (outside [], tt, record { before = refl; after = refl }, refl))))
+first_run = (
+  record { stage = Second; contour = []; filled = [] },
+  tt,
+  record { before = refl; after = refl },
+  (
+    record { stage = Third; contour = []; filled = [] },
+    tt,
+    record { before = refl; after = refl },
+    (
+      record { stage = Fourth; contour = []; filled = [] },
+      tt,
+      record { before = refl; after = refl },
+      (outside [], tt, record { before = refl; after = refl }, refl),
+    ),
+  ),
+)
 
 ended : List Rect → Machine
 ended areas = record { stage = Ended; contour = []; filled = areas }
@@ -154,7 +193,7 @@ areas_read areas h =
 
 wanted_fillable : (l : LayerId) (shapes : List Shape) → ByRecursion (IsWritable l) shapes → ByRecursion IsFillable (wanted l shapes)
 wanted_fillable l [] h = tt
-wanted_fillable l (s ∷ ss) h = by (is_wanted l s) h.0 (wanted_fillable l ss h.1)
+wanted_fillable l (s ∷ ss) h = by (is_wanted l s) (wanted_is_fillable l s h.0) (wanted_fillable l ss h.1)
   where
     by : (b : Bool) → (b ≡ true → IsFillable s.area) → ByRecursion IsFillable (wanted l ss) → ByRecursion IsFillable ((if b then s.area ∷ [] else []) ++ wanted l ss)
     by true f rest = (f refl, rest)

@@ -5,3 +5,4 @@ pub mod Filling
 pub mod Layering
 pub mod Once
 pub mod Steps
+pub mod Wanted

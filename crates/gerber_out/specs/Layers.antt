@@ -1,15 +1,16 @@
 -- The text of a layer: the copper on it that belongs to nets.
-use Rattle.std.specs.Prelude.{◌≡◌, ℕ, ◌==◌, ◌+◌, int_lt, Bool, true, false, ◌&&◌, if◌then◌else◌, List, [], ◌∷◌, ◌++◌, Option, Some, None}
+use Rattle.std.specs.Prelude.{◌≡◌, ℕ, ◌==◌, pos, int_lt, Bool, true, false, ◌&&◌, if◌then◌else◌, List, [], ◌∷◌, ◌++◌, Option, Some, None}
 use Rattle.std.specs.List.{flat_map}
 use Rattle.geo_rect.specs.declared.ids.LayerId.{LayerId}
 use Rattle.geo_rect.specs.declared.ids.NetId.{NetId}
 use Rattle.geo_rect.specs.declared.shapes.Rect.{Rect}
+use Rattle.board_model.specs.Rules.{IsOnBoard}
 use Rattle.board_model.specs.declared.shapes.Shape.{Shape}
 use Rattle.gerber_out.specs.declared.spelling.Line.{Line}
 use Rattle.gerber_out.specs.declared.spelling.Line.TheVariants.{Plain, Draw}
 use Rattle.gerber_out.specs.declared.spelling.Pen.TheVariants.{Up, Down}
 use Rattle.gerber_out.specs.declared.spelling.Word.TheVariants.{Format, Measure, Polarity, Linear, Begin, Close, End}
-use Rattle.gerber_out.specs.Contours.{corner_at, IsFillable}
+use Rattle.gerber_out.specs.Contours.{corner_at}
 use Rattle.gerber_out.specs.Spelling.{line_text}
 
 abbrev pub has_owner : Option NetId → Bool
@@ -55,4 +56,4 @@ areas_text areas = first_text ++ flat_map region_text areas ++ line_text (Plain 
 
 -- the coordinates of a shape that is wanted are from 0 to 9,999,999
 abbrev pub IsWritable : LayerId → Shape → Type 0
-IsWritable l s = is_wanted l s ≡ true → IsFillable s.area
+IsWritable l s = is_wanted l s ≡ true → IsOnBoard (pos 9999999) (pos 9999999) s.area

@@ -11,6 +11,8 @@ mod machine;
 mod numbers;
 mod reading;
 mod spelling;
+#[cfg(test)]
+mod tests;
 mod writing;
 
 pub use laws::readings_are_one;

@@ -85,6 +85,7 @@ fn push_region(text: &mut List<u8>, area: Rect) -> Result<(), NoMemory>
 }
 
 /// Adds a shape, if it is wanted on the layer.
+#[tactic(auto, using(crate::proofs::Wanted::wanted_is_fillable))]
 fn push_shape(text: &mut List<u8>, shape: &Shape, layer: LayerId) -> Result<(), NoMemory>
     requires { IsWritable layer shape.now }
     ensures { OnOk result (text.new ≡ text.old ++ flat_map region_text (wanted_of layer shape.now)) }
