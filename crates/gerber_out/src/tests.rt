@@ -1,3 +1,6 @@
+ghost use Rattle.std.specs.List.{AllByRecursion};
+ghost use Rattle.gerber_out.specs.Layers.{IsWritable};
+
 use crate::reading::{ReadLayer, read_layer};
 use crate::writing::layer_text;
 use board_model::{Board, BoardParts, Rule, Shape};
@@ -22,7 +25,9 @@ fn small_board(alloc: Global) -> Result<Option<Board>, NoMemory> {
 }
 
 /// Two pins, and before and between them a blockage, a line, and a shape on another layer.
-fn shapes() -> [Shape; 5] {
+fn shapes() -> [Shape; 5]
+    ensures { AllByRecursion (IsWritable (record { 0 = 0 })) result }
+{
     let (top, net) = (LayerId(0), Some(NetId(0)));
     [
         Shape {
