@@ -1,5 +1,5 @@
 -- A line is told by its bytes.
-use Rattle.std.proofs.Common.{◌≡◌, ℕ, ◌<◌, ◌≤◌, ◌^◌, List, ◌∷◌, [], ◌++◌, get_or, lit<, Option, Some, None, Bool, true, false, cond, codes, decimal, refl, sym, ap, ◌∙◌, arith}
+use Rattle.std.proofs.Common.{◌≡◌, ℕ, ◌<◌, ◌≤◌, List, ◌∷◌, ◌++◌, get_or, lit<, Option, Some, None, cond, codes, decimal, refl, sym, ap, ◌∙◌, arith}
 use Rattle.std.specs.Str.{bytes_eq}
 use Rattle.gerber_out.specs.declared.contours.Corner.{Corner}
 use Rattle.gerber_out.specs.declared.contours.TheConstants.{MOST_UNITS}
@@ -9,7 +9,7 @@ use Rattle.gerber_out.specs.declared.spelling.Pen.{Pen}
 use Rattle.gerber_out.specs.declared.spelling.Pen.TheVariants.{Up, Down}
 use Rattle.gerber_out.specs.declared.spelling.Word.{Word}
 use Rattle.gerber_out.specs.declared.spelling.Word.TheVariants.{Format, Measure, Polarity, Linear, Begin, Close, End}
-use Rattle.gerber_out.specs.Spelling.{word_text, pen_text, line_text, IsSpelled}
+use Rattle.gerber_out.specs.Spelling.{word_text, pen_text, IsSpelled}
 use Rattle.gerber_out.proofs.Decimals.{before_once}
 
 -- what stands behind the byte D

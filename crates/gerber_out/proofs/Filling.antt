@@ -1,10 +1,10 @@
 -- What the machine does where a contour ends.
-use Rattle.std.proofs.Common.{◌≡◌, ℕ, ◌≤◌, ℤ, pos, negsuc, ◌≤ℤ◌, List, [], ◌∷◌, ◌++◌, get_or, refl, sym, ap, ◌∙◌, subst, arith}
+use Rattle.std.proofs.Common.{◌≡◌, ◌≤◌, ℤ, pos, negsuc, ◌≤ℤ◌, List, [], ◌∷◌, ◌++◌, get_or, sym, ap, ◌∙◌, subst, arith}
 use Rattle.std.proofs.lemmas.Int.{ints}
 use Rattle.geo_rect.proofs.Same.{same_interval, same_rect}
 use Rattle.geo_rect.specs.Plane.{columns, rows}
 use Rattle.geo_rect.specs.declared.shapes.Rect.{Rect}
-use Rattle.gerber_out.specs.Contours.{units, contour, IsContourOf, IsSpan}
+use Rattle.gerber_out.specs.Contours.{units, contour, IsContourOf}
 use Rattle.gerber_out.specs.Machine.{Fills}
 use Rattle.gerber_out.specs.declared.contours.Corner.{Corner}
 use Rattle.gerber_out.specs.declared.contours.TheConstants.{MOST_UNITS}

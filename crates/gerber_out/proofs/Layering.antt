@@ -1,5 +1,5 @@
 -- The machine reads the text of a layer, and fills its rectangles.
-use Rattle.std.proofs.Common.{◌≡◌, ◌≢◌, ℕ, ◌+◌, ◌<◌, ◌≤◌, ◌^◌, ℤ, pos, ◌≤ℤ◌, Bool, true, false, List, [], ◌∷◌, ◌++◌, length, decimal, codes, All, refl, sym, ap, ◌∙◌, subst, arith, append_assoc, if◌then◌else◌}
+use Rattle.std.proofs.Common.{◌≡◌, ◌≢◌, ℕ, ℤ, pos, ◌≤ℤ◌, Bool, true, false, List, [], ◌∷◌, ◌++◌, decimal, All, refl, sym, ap, ◌∙◌, subst, arith, append_assoc, if◌then◌else◌}
 use Rattle.std.proofs.lemmas.Int.{ints}
 use Rattle.std.proofs.lemmas.List.{append-nil}
 use Rattle.std.proofs.lemmas.List.Elements.{recursion_from_All}
@@ -7,16 +7,15 @@ use Rattle.std.specs.List.{flat_map, AllByRecursion as ByRecursion}
 use Rattle.geo_rect.specs.declared.ids.LayerId.{LayerId}
 use Rattle.geo_rect.specs.declared.shapes.Rect.{Rect}
 use Rattle.board_model.specs.declared.shapes.Shape.{Shape}
-use Rattle.gerber_out.specs.Contours.{corner_at, contour, units, IsFillable, IsInUnits, IsSpan}
-use Rattle.gerber_out.specs.Layers.{is_wanted, wanted_of, wanted, region, lines_text, region_text, first_lines, first_text, areas_text, IsWritable}
+use Rattle.gerber_out.specs.Contours.{corner_at, contour, IsFillable, IsInUnits}
+use Rattle.gerber_out.specs.Layers.{is_wanted, wanted, region, lines_text, region_text, first_lines, first_text, areas_text, IsWritable}
 use Rattle.gerber_out.specs.Lines.{lines, onto}
 use Rattle.gerber_out.specs.Machine.{no_lines, Leads}
-use Rattle.gerber_out.specs.Reading.{IsNext, Reads, IsRead}
+use Rattle.gerber_out.specs.Reading.{Reads, IsRead}
 use Rattle.gerber_out.specs.Spelling.{word_text, pen_text, line_text, IsInRange}
 use Rattle.gerber_out.specs.declared.contours.Corner.{Corner}
-use Rattle.gerber_out.specs.declared.contours.TheConstants.{MOST_UNITS}
 use Rattle.gerber_out.specs.declared.machine.Machine.{Machine}
-use Rattle.gerber_out.specs.declared.machine.Stage.TheVariants.{First, Second, Third, Fourth, Outside, Inside, Ended}
+use Rattle.gerber_out.specs.declared.machine.Stage.TheVariants.{Second, Third, Fourth, Outside, Inside, Ended}
 use Rattle.gerber_out.specs.declared.spelling.Line.{Line}
 use Rattle.gerber_out.specs.declared.spelling.Line.TheVariants.{Plain, Draw}
 use Rattle.gerber_out.specs.declared.spelling.Pen.{Pen}

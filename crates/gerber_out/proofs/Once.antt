@@ -1,13 +1,13 @@
 -- Of each text the machine makes one thing at most.
-use Rattle.std.proofs.Common.{◌≡◌, ◌≢◌, ℕ, suc, ◌+◌, List, [], ◌∷◌, ◌++◌, length, ◌⊎◌, inl, inr, refl, sym, ap, ◌∙◌, subst, arith}
+use Rattle.std.proofs.Common.{◌≡◌, ℕ, suc, List, [], ◌∷◌, ◌++◌, length, inl, inr, refl, sym, ap, ◌∙◌, subst, arith}
 use Rattle.geo_rect.specs.declared.shapes.Rect.{Rect}
 use Rattle.gerber_out.specs.Lines.{lines}
 use Rattle.gerber_out.specs.Machine.{no_lines, Leads, Passes, Appends, Fills}
-use Rattle.gerber_out.specs.Reading.{IsNext, MayNotStand, Reads, IsRead, IsWrongLine, HasNoEnd, IsRefused}
+use Rattle.gerber_out.specs.Reading.{IsNext, MayNotStand, Reads, IsRead, IsRefused}
 use Rattle.gerber_out.specs.declared.contours.Corner.{Corner}
 use Rattle.gerber_out.specs.declared.machine.Machine.{Machine}
 use Rattle.gerber_out.specs.declared.machine.Stage.{Stage}
-use Rattle.gerber_out.specs.declared.machine.Stage.TheVariants.{Outside, Ended}
+use Rattle.gerber_out.specs.declared.machine.Stage.TheVariants.{Outside}
 use Rattle.gerber_out.specs.declared.spelling.Line.{Line}
 use Rattle.gerber_out.specs.declared.spelling.Line.TheVariants.{Plain, Draw}
 use Rattle.gerber_out.specs.declared.spelling.Pen.TheVariants.{Up, Down}

@@ -1,23 +1,17 @@
 -- From line to line: what the machine makes of one is one thing, and so of all.
-use Rattle.std.proofs.Common.{◌≡◌, ◌≢◌, ℕ, ◌+◌, Bool, true, false, List, [], ◌∷◌, ◌++◌, length, Result, Ok, Err, ◌⊎◌, inl, inr, refl, sym, ap, ◌∙◌, subst, arith, append_assoc, length-append}
+use Rattle.std.proofs.Common.{◌≡◌, ℕ, ◌+◌, Bool, true, false, List, [], ◌∷◌, ◌++◌, length, Result, Ok, Err, inl, inr, refl, sym, ap, ◌∙◌, subst, arith, append_assoc, length-append}
 use Rattle.std.proofs.lemmas.List.{append-nil}
 use Rattle.std.proofs.lemmas.Bool.{false≢true}
 use Rattle.geo_rect.specs.declared.memory.NoMemory.{NoMemory}
 use Rattle.geo_rect.specs.declared.shapes.Rect.{Rect}
 use Rattle.gerber_out.specs.Lines.{lines}
-use Rattle.gerber_out.specs.Machine.{no_lines, Leads, Passes, Appends, Fills}
-use Rattle.gerber_out.specs.Reading.{IsNext, MayNotStand, Reads, IsRead, IsWrongLine, HasNoEnd, IsRefused, IsPassed, TellsLine, TellsStep, TellsLines, TellsEnd, TellsReading}
+use Rattle.gerber_out.specs.Machine.{no_lines, Leads}
+use Rattle.gerber_out.specs.Reading.{IsNext, MayNotStand, Reads, IsRefused, IsPassed, TellsLine, TellsStep, TellsLines, TellsEnd, TellsReading}
 use Rattle.gerber_out.specs.Spelling.{IsSpelled}
-use Rattle.gerber_out.specs.declared.contours.Corner.{Corner}
 use Rattle.gerber_out.specs.declared.machine.Machine.{Machine}
-use Rattle.gerber_out.specs.declared.machine.Stage.{Stage}
-use Rattle.gerber_out.specs.declared.machine.Stage.TheVariants.{Ended}
 use Rattle.gerber_out.specs.declared.reading.ReadLayer.{ReadLayer}
 use Rattle.gerber_out.specs.declared.reading.ReadLayer.TheVariants as read_layer
 use Rattle.gerber_out.specs.declared.spelling.Line.{Line}
-use Rattle.gerber_out.specs.declared.spelling.Line.TheVariants.{Plain, Draw}
-use Rattle.gerber_out.specs.declared.spelling.Pen.TheVariants.{Up, Down}
-use Rattle.gerber_out.specs.declared.spelling.Word.TheVariants.{Format, Measure, Polarity, Linear, Begin, Close, End}
 use Rattle.gerber_out.proofs.Draws.{same_line}
 
 -- what is said of a line holds of its bytes

@@ -1,5 +1,5 @@
 -- The machine that reads the lines of a text: where each line may stand, and what it does there.
-use Rattle.std.specs.Prelude.{◌≡◌, ℕ, ◌≤◌, List, [], ◌∷◌, ◌++◌, length}
+use Rattle.std.specs.Prelude.{◌≡◌, ◌≤◌, [], ◌∷◌, ◌++◌, length}
 use Rattle.geo_rect.specs.declared.shapes.Rect.{Rect}
 use Rattle.gerber_out.specs.declared.contours.Corner.{Corner}
 use Rattle.gerber_out.specs.declared.machine.Machine.{Machine}

@@ -1,6 +1,5 @@
 -- What the lines of the format say, and how each is written.
 use Rattle.std.specs.Prelude.{◌≡◌, ℕ, ◌++◌, List, codes, decimal}
-use Rattle.gerber_out.specs.declared.contours.Corner.{Corner}
 use Rattle.gerber_out.specs.declared.spelling.Line.{Line}
 use Rattle.gerber_out.specs.declared.spelling.Line.TheVariants.{Plain, Draw}
 use Rattle.gerber_out.specs.declared.spelling.Pen.{Pen}

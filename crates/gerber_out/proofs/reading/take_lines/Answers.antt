@@ -1,4 +1,4 @@
-use Rattle.std.proofs.Common.{◌≡◌, ◌+◌, ◌≤◌, length, arith}
+use Rattle.std.proofs.Common.{arith}
 use Rattle.gerber_out.proofs.Steps.{line_stands, passed_more}
 use Rattle.gerber_out.proofs.reading.take_lines.Goals as goal
 

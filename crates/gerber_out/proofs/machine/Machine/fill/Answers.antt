@@ -1,4 +1,4 @@
-use Rattle.std.proofs.Common.{rules, sym}
+use Rattle.std.proofs.Common.{rules}
 use Rattle.gerber_out.proofs.Filling.{filled}
 use Rattle.gerber_out.proofs.machine.Machine.fill.Goals as goal
 
