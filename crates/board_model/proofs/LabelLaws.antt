@@ -11,11 +11,8 @@ use Rattle.geo_rect.specs.declared.ids.NetId.{NetId}
 use Rattle.geo_rect.specs.declared.shapes.Point.{Point}
 use Rattle.board_model.specs.declared.parts.BoardParts.{BoardParts}
 use Rattle.board_model.specs.declared.shapes.Shape.{Shape}
-use Rattle.board_model.specs.Spacing.{keeps_outline}
-use Rattle.board_model.specs.Labels.{PlaneRule, Hits, FitsBoard, does_hit, joined, with_shape, bare_label, label_among, IsHitBy, IsFree, IsLeftTo, IsTakenBy, IsBarred, Admits}
-use Rattle.board_model.proofs.Decisions.{Decides-keeps_outline}
-use Rattle.board_model.proofs.LabelTests.{Decides-does_hit}
-use Rattle.geo_rect.specs.Plane.{square}
+use Rattle.board_model.specs.Labels.{PlaneRule, Hits, IsAllowed, is_allowed, does_hit, joined, with_shape, bare_label, label_among, IsHitBy, IsFree, IsLeftTo, IsTakenBy, IsBarred, Admits}
+use Rattle.board_model.proofs.LabelTests.{Decides-does_hit, Decides-is_allowed}
 
 -- what a label says of the shapes
 abbrev Says : BoardParts → PlaneRule → List Shape → Point → Label → Type 0
@@ -32,7 +29,7 @@ module _ (b : BoardParts) (r : PlaneRule) (p : Point) where
   hit_within xs ys o w h = record { shape = h.shape; member = w h.shape h.hits h.member; owned = h.owned; hits = h.hits }
 
   left_within : (xs ys : List Shape) (n : NetId) → Within ys xs → IsLeftTo b r xs p n → IsLeftTo b r ys p n
-  left_within xs ys n w h = record { fits = h.fits; own = λ s m k. h.own s (w s k m) k }
+  left_within xs ys n w h = record { allowed = h.allowed; own = λ s m k. h.own s (w s k m) k }
 
   barred_within : (xs ys : List Shape) → Within xs ys → IsBarred b r xs p → IsBarred b r ys p
   barred_within xs ys w h =
@@ -52,7 +49,7 @@ module _ (b : BoardParts) (r : PlaneRule) (p : Point) where
 
   -- lists with the same hits say the same
   says_within : (a : Label) (xs ys : List Shape) → Within xs ys → Within ys xs → Says b r xs p a → Says b r ys p a
-  says_within Free xs ys w v h = record { fits = h.fits; clear = λ s m k. h.clear s (v s k m) k }
+  says_within Free xs ys w v h = record { allowed = h.allowed; clear = λ s m k. h.clear s (v s k m) k }
   says_within (One n) xs ys w v h = record { left = left_within xs ys n v h.left; hit = hit_within xs ys (Some n) w h.hit }
   says_within Many xs ys w v h = barred_within xs ys w h
 
@@ -63,7 +60,7 @@ module _ (b : BoardParts) (r : PlaneRule) (p : Point) where
   free_not_barred : (shapes : List Shape) → IsFree b r shapes p → IsBarred b r shapes p → ⊥
   free_not_barred shapes f h =
       elim h [
-        | inl out ↦ out f.fits
+        | inl out ↦ out f.allowed
         | inr k ↦ elim k [ inl blocked ↦ free_not_hit shapes None f blocked | inr two ↦ free_not_hit shapes (Some two.first) f two.by_first ]
       ]
 
@@ -73,7 +70,7 @@ module _ (b : BoardParts) (r : PlaneRule) (p : Point) where
   left_not_barred : (shapes : List Shape) (n : NetId) → IsLeftTo b r shapes p n → IsBarred b r shapes p → ⊥
   left_not_barred shapes n l h =
       elim h [
-        | inl out ↦ out l.fits
+        | inl out ↦ out l.allowed
         | inr k ↦ elim k [
           | inl blocked ↦ none-some n (left_owner shapes n None l blocked)
           | inr two ↦ two.apart (same_Some _ _ (left_owner shapes n (Some two.first) l two.by_first ∙ sym (left_owner shapes n (Some two.second) l two.by_second)))
@@ -97,9 +94,9 @@ module _ (b : BoardParts) (r : PlaneRule) (p : Point) where
 
   says_bare : Says b r [] p (bare_label b r p)
   says_bare =
-      cond_both (keeps_outline b (square p r.half)) Free Many (λ (a : Label). Says b r [] p a)
-      (λ e. record { fits = (Decides-keeps_outline b (square p r.half)).0 e; clear = λ s c h. none_in_nil s c })
-      (λ e. inl (λ f. both_ways _ e ((Decides-keeps_outline b (square p r.half)).1 f)))
+      cond_both (is_allowed b r p) Free Many (λ (a : Label). Says b r [] p a)
+      (λ e. record { allowed = (Decides-is_allowed b r p).0 e; clear = λ s c h. none_in_nil s c })
+      (λ e. inl (λ f. both_ways _ e ((Decides-is_allowed b r p).1 f)))
 
   -- with one more shape that hits
   module _ (shapes : List Shape) (s : Shape) (h : Hits r p s) where
@@ -109,9 +106,9 @@ module _ (b : BoardParts) (r : PlaneRule) (p : Point) where
     hit_now : (o : Option NetId) → s.owner ≡ o → IsHitBy r (shapes ++ s ∷ []) p o
     hit_now o e = record { shape = s; member = Contains-push shapes s; owned = e; hits = h }
 
-    left_now : (n : NetId) → FitsBoard b r p → ((x : Shape) → Contains shapes x → Hits r p x → x.owner ≡ Some n) → s.owner ≡ Some n → IsLeftTo b r (shapes ++ s ∷ []) p n
+    left_now : (n : NetId) → IsAllowed b r p → ((x : Shape) → Contains shapes x → Hits r p x → x.owner ≡ Some n) → s.owner ≡ Some n → IsLeftTo b r (shapes ++ s ∷ []) p n
     left_now n f own e = record {
-      fits = f;
+      allowed = f;
       own = λ x c k. elim (Contains-push_cases shapes s x c) [
         | inl before ↦ own x before k
         | inr same ↦ subst (λ (y : Shape). y.owner ≡ Some n) same e
@@ -126,12 +123,12 @@ module _ (b : BoardParts) (r : PlaneRule) (p : Point) where
 
     says_joined : (a : Label) (o : Option NetId) → s.owner ≡ o → Says b r shapes p a → Says b r (shapes ++ s ∷ []) p (joined a o)
     says_joined Free None e k = inr (inl (hit_now None e))
-    says_joined Free (Some n) e k = record { left = left_now n k.fits (λ x c t. absurd (k.clear x c t)) e; hit = hit_now (Some n) e }
+    says_joined Free (Some n) e k = record { left = left_now n k.allowed (λ x c t. absurd (k.clear x c t)) e; hit = hit_now (Some n) e }
     says_joined (One m) None e k = inr (inl (hit_now None e))
     says_joined (One m) (Some n) e k =
         cond_both (m.0 == n.0) (One m) Many (λ (a : Label). Says b r (shapes ++ s ∷ []) p a)
         (λ t. record {
-          left = left_now m k.left.fits k.left.own (e ∙ ap Some (sym (same_net m n t)));
+          left = left_now m k.left.allowed k.left.own (e ∙ ap Some (sym (same_net m n t)));
           hit = hit_within shapes (shapes ++ s ∷ []) (Some m) more k.hit;
         })
         (λ t. inr (inr (record {
@@ -188,11 +185,11 @@ module _ (b : BoardParts) (r : PlaneRule) (p : Point) where
       (says_within (label_among b r xs p) xs ys (λ s h c. (w s h).0 c) (λ s h c. (w s h).1 c) (says_label xs))
       (says_label ys)
 
-  pub label_among-nil_fits : FitsBoard b r p → label_among b r [] p ≡ Free
-  label_among-nil_fits f = (says_what [] Free).1 (record { fits = f; clear = λ s c h. none_in_nil s c })
+  pub label_among-nil_allowed : IsAllowed b r p → label_among b r [] p ≡ Free
+  label_among-nil_allowed f = (says_what [] Free).1 (record { allowed = f; clear = λ s c h. none_in_nil s c })
 
-  pub label_among-nil_leaves : ¬ FitsBoard b r p → label_among b r [] p ≡ Many
-  label_among-nil_leaves out = (says_what [] Many).1 (inl out)
+  pub label_among-nil_shut : ¬ IsAllowed b r p → label_among b r [] p ≡ Many
+  label_among-nil_shut out = (says_what [] Many).1 (inl out)
 
   pub label_among-push : (shapes : List Shape) (s : Shape) → label_among b r (shapes ++ s ∷ []) p ≡ with_shape r p (label_among b r shapes p) s
   unfolding label_among
@@ -219,7 +216,7 @@ module _ (b : BoardParts) (r : PlaneRule) (p : Point) where
   label_among-filter keep shapes miss = fold_kept keep shapes (bare_label b r p) miss
 
   left_from : (shapes : List Shape) (n : NetId) (a : Label) → Says b r shapes p a → Admits a n → IsLeftTo b r shapes p n
-  left_from shapes n Free h t = record { fits = h.fits; own = λ s c k. absurd (h.clear s c k) }
+  left_from shapes n Free h t = record { allowed = h.allowed; own = λ s c k. absurd (h.clear s c k) }
   left_from shapes n (One m) h t = subst (λ (k : NetId). IsLeftTo b r shapes p k) t h.left
   left_from shapes n Many h t = absurd t
 

@@ -1,3 +1,4 @@
+pub mod Counting
 pub mod Decisions
 pub mod Filtered
 pub mod LabelHits
@@ -9,5 +10,7 @@ pub mod NameLists
 pub mod NameTables
 pub mod OwnersGap
 pub mod Squares
+pub mod SquareFits
 pub mod StateShapes
+pub mod Tables
 pub mod WellFormed

@@ -1,7 +1,8 @@
 -- That each shape of a state is known, where the connections are well formed.
+use Rattle.std.specs.Prelude.{◌==◌}
 use Rattle.std.proofs.Common.{◌≡◌, ℕ, ℤ, pos, ◌+◌, ◌-◌, ◌<◌, ◌≤◌, List, [], ◌∷◌, ◌++◌, length, get_or, drop, All, ap, ◌∙◌, sym, subst, ◌⊎◌, inl, inr, arith, append-nil}
 use Rattle.std.specs.List.{flat_map}
-use Rattle.std.proofs.lemmas.Bool.{cases_lt}
+use Rattle.std.proofs.lemmas.Bool.{cases_lt, cond_both}
 use Rattle.std.proofs.lemmas.Int.{ints, clamps}
 use Rattle.std.proofs.lemmas.List.{get_or_past, drop_all}
 use Rattle.std.proofs.lemmas.List.Elements.{All-nil, All-cons, All-head, All-tail, All-append, All-map, All-weaker, All-get_or}
@@ -19,10 +20,10 @@ use Rattle.board_model.specs.declared.made.Conn.{Conn}
 use Rattle.board_model.specs.declared.made.Leg.{Leg}
 use Rattle.board_model.specs.declared.made.Leg.TheVariants.{Wire, Via}
 use Rattle.board_model.specs.Known.{IsNearZero, IsNearOrigin, IsKnown}
-use Rattle.board_model.specs.Lookup.{rule_of, pad_of, kind_of, class_of, layer_at, layers_from}
+use Rattle.board_model.specs.Lookup.{rule_of, gap_of, pad_of, inner_of, pad_on, kind_of, class_of, layer_at, layers_from}
 use Rattle.board_model.specs.Rules.{IsBoard, IsMeasure, IsRule, IsKind}
 use Rattle.board_model.specs.Segments.{stretch, segment}
-use Rattle.board_model.specs.Shapes.{place_of, end_of, net_shape, leg_shapes, legs_shapes, conn_shapes, made_shapes, board_shapes, state_shapes}
+use Rattle.board_model.specs.Shapes.{place_of, end_of, net_shape, via_shape, leg_shapes, legs_shapes, conn_shapes, made_shapes, board_shapes, state_shapes}
 use Rattle.board_model.specs.WellFormed.{IsCoordinate, IsPlace, IsCorner, IsStep, AreSteps, IsWellFormed, AreWellFormed}
 use Rattle.board_model.proofs.Squares.{segment-square}
 use Rattle.board_model.proofs.StateShapes.{All-flat_map, numbers_below, board_known}
@@ -38,11 +39,23 @@ All-or_else P xs i d h e = by (cases_lt i (length xs))
 one_is_measure : IsMeasure (pos 1)
 one_is_measure = record { from = omega arith; to = omega arith }
 
-rule_is : (b : BoardParts) → IsBoard b → (l : LayerId) (c : ClassId) → IsRule (rule_of b l c)
+pub rule_is : (b : BoardParts) → IsBoard b → (l : LayerId) (c : ClassId) → IsRule (rule_of b l c)
 rule_is b h l c = All-or_else IsRule b.rules _ _ h.each_rule (record { half = one_is_measure; gap = one_is_measure })
 
-pad_is : (b : BoardParts) → IsBoard b → (k : KindId) (c : ClassId) → IsMeasure (pad_of b k c)
+pub gap_is : (b : BoardParts) → IsBoard b → (l : LayerId) (c d : ClassId) → IsMeasure (gap_of b l c d)
+gap_is b h l c d = All-or_else IsMeasure b.gaps _ _ h.each_gap one_is_measure
+
+pub pad_is : (b : BoardParts) → IsBoard b → (k : KindId) (c : ClassId) → IsMeasure (pad_of b k c)
 pad_is b h k c = All-or_else IsMeasure b.pads _ _ h.each_pad one_is_measure
+
+pub inner_is : (b : BoardParts) → IsBoard b → (k : KindId) (c : ClassId) → IsMeasure (inner_of b k c)
+inner_is b h k c = All-or_else IsMeasure b.inners _ _ h.each_inner one_is_measure
+
+-- each pad is a measure
+pub pad_on_is : (b : BoardParts) → IsBoard b → (k : KindId) (c : ClassId) (l : LayerId) → IsMeasure (pad_on b k c l)
+pad_on_is b h k c l =
+    cond_both (l.0 == (kind_of b k).first.0) _ _ IsMeasure (λ e. pad_is b h k c)
+    (λ e. cond_both (l.0 == (kind_of b k).last.0) _ _ IsMeasure (λ f. pad_is b h k c) (λ f. inner_is b h k c))
 
 pub kind_is : (b : BoardParts) → IsBoard b → (k : KindId) → k.0 < length b.kinds → IsKind (length b.layers) (kind_of b k)
 kind_is b h k l = All-get_or (IsKind (length b.layers)) b.kinds k.0 _ l h.each_kind
@@ -59,7 +72,7 @@ near_square p h a m = subst IsNearOrigin (segment-square p h) (near_segment p p 
 
 span_known : (b : BoardParts) (k : ViaKind) → IsKind (length b.layers) k → All (λ (l : LayerId). l.0 < length b.layers) (layers_from k.first k.last)
 span_known b k h =
-    All-map (λ (l : LayerId). l.0 < length b.layers) layer_at _ (numbers_below k.first.0 (k.last.0 + 1 - k.first.0) (length b.layers) (λ e. omega (arith, h.known, h.neighbours)) (omega (arith, h.known, h.neighbours)))
+    All-map (λ (l : LayerId). l.0 < length b.layers) layer_at _ (numbers_below k.first.0 (k.last.0 + 1 - k.first.0) (length b.layers) (λ e. omega (arith, h.known, h.order)) (omega (arith, h.known, h.order)))
 
 module _ (b : BoardParts) (h : IsBoard b) where
   leg_known : (n : NetId) → n.0 < length b.net_names → (from : Node) → IsCorner b from → (leg : Leg) → IsStep b from leg → All (IsKnown b) (leg_shapes b n from leg)
@@ -71,10 +84,10 @@ module _ (b : BoardParts) (h : IsBoard b) where
         area = near_segment (place_of from) (place_of to) _ v.place s.end.place (rule_is b h to.layer (class_of b n)).half;
       }) (All-nil (IsKnown b))
   leg_known n l from v (Via k to) s =
-      let area = square (place_of to) (pad_of b k (class_of b n)) in
-      let near : IsNearOrigin area = near_square (place_of to) _ s.end.place (pad_is b h k (class_of b n)) in
-      All-map (IsKnown b) (net_shape n area) _
-      (All-weaker (λ (m : LayerId). m.0 < length b.layers) (λ m. IsKnown b (net_shape n area m)) (λ m e. record { layer = e; owner = l; area = near }) _ (span_known b (kind_of b k) (kind_is b h k s.form.kind)))
+      let p = place_of to in
+      let near : (m : LayerId) → IsNearOrigin (square p (pad_on b k (class_of b n) m)) = λ m. near_square p _ s.end.place (pad_on_is b h k (class_of b n) m) in
+      All-map (IsKnown b) (via_shape b n k p) _
+      (All-weaker (λ (m : LayerId). m.0 < length b.layers) (λ m. IsKnown b (via_shape b n k p m)) (λ m e. record { layer = e; owner = l; area = near m }) _ (span_known b (kind_of b k) (kind_is b h k s.form.kind)))
 
   legs_known : (n : NetId) → n.0 < length b.net_names → (from : Node) → IsCorner b from → (legs : List Leg) → AreSteps b from legs → All (IsKnown b) (legs_shapes b n from legs)
   legs_known n l from v [] s = All-nil (IsKnown b)

@@ -1,5 +1,5 @@
 -- What a board says of its layers, classes, kinds and nets.
-use Rattle.std.specs.Prelude.{ℕ, ◌+◌, ◌-◌, ◌*◌, ◌==◌, ℤ, pos, List, [], length, map, filter, slice_index_or}
+use Rattle.std.specs.Prelude.{ℕ, ◌+◌, ◌-◌, ◌*◌, ◌==◌, ℤ, pos, if◌then◌else◌, List, [], length, map, filter, slice_index_or}
 use Rattle.std.specs.List.{range_with_len}
 use Rattle.geo_rect.specs.declared.ids.ClassId.{ClassId}
 use Rattle.geo_rect.specs.declared.ids.KindId.{KindId}
@@ -14,12 +14,25 @@ use Rattle.board_model.specs.declared.parts.Pin.{Pin}
 abbrev pub rule_of : BoardParts → LayerId → ClassId → Rule
 rule_of b l c = slice_index_or b.rules (l.0 * length b.classes + c.0) (record { half = pos 1; gap = pos 1 })
 
--- half the width of the pad of a kind's via for a class
+-- the gap between two classes on a layer
+abbrev pub gap_of : BoardParts → LayerId → ClassId → ClassId → ℤ
+gap_of b l c d = slice_index_or b.gaps ((l.0 * length b.classes + c.0) * length b.classes + d.0) (pos 1)
+
+-- half the width of the pad of a kind's via for a class, on the first and the last layer of its span
 abbrev pub pad_of : BoardParts → KindId → ClassId → ℤ
 pad_of b k c = slice_index_or b.pads (k.0 * length b.classes + c.0) (pos 1)
 
 abbrev pub kind_of : BoardParts → KindId → ViaKind
 kind_of b k = slice_index_or b.kinds k.0 (record { first = record { 0 = 0 }; last = record { 0 = 0 }; charge = 0 })
+
+-- half the width of that pad on each layer between the first and the last
+abbrev pub inner_of : BoardParts → KindId → ClassId → ℤ
+inner_of b k c = slice_index_or b.inners (k.0 * length b.classes + c.0) (pos 1)
+
+-- half the width of that pad on a layer
+abbrev pub pad_on : BoardParts → KindId → ClassId → LayerId → ℤ
+pad_on b k c l =
+    if l.0 == (kind_of b k).first.0 then pad_of b k c else (if l.0 == (kind_of b k).last.0 then pad_of b k c else inner_of b k c)
 
 abbrev pub class_of : BoardParts → NetId → ClassId
 class_of b n = slice_index_or b.net_classes n.0 (record { 0 = 0 })
@@ -45,10 +58,13 @@ empty_parts title width height = record {
   layers = [];
   classes = [];
   rules = [];
+  gaps = [];
   kind_names = [];
   kinds = [];
   pads = [];
+  inners = [];
   blocks = [];
+  keepouts = [];
   net_names = [];
   net_classes = [];
   pins = [];

@@ -1,6 +1,7 @@
 -- The shapes of a state, in their order: blockages, pins on each of their layers, connections.
 use Rattle.std.specs.Prelude.{ℕ, ◌+◌, List, [], ◌∷◌, ◌++◌, map, Some, None}
 use Rattle.std.specs.List.{flat_map}
+use Rattle.geo_rect.specs.declared.ids.KindId.{KindId}
 use Rattle.geo_rect.specs.declared.ids.LayerId.{LayerId}
 use Rattle.geo_rect.specs.declared.ids.NetId.{NetId}
 use Rattle.geo_rect.specs.declared.ids.Node.{Node}
@@ -14,7 +15,7 @@ use Rattle.board_model.specs.declared.made.Conn.{Conn}
 use Rattle.board_model.specs.declared.made.Leg.{Leg}
 use Rattle.board_model.specs.declared.made.Leg.TheVariants.{Wire, Via}
 use Rattle.board_model.specs.declared.shapes.Shape.{Shape}
-use Rattle.board_model.specs.Lookup.{rule_of, pad_of, kind_of, class_of, layers_from}
+use Rattle.board_model.specs.Lookup.{rule_of, pad_on, kind_of, class_of, layers_from}
 use Rattle.board_model.specs.Segments.{segment}
 
 -- where a node stands on its layer
@@ -38,12 +39,16 @@ abbrev pub end_of : Leg → Node
 end_of (Wire to) = to
 end_of (Via k to) = to
 
+-- the pad on a layer of a via of a net
+abbrev pub via_shape : BoardParts → NetId → KindId → Point → LayerId → Shape
+via_shape b n k p l = net_shape n (square p (pad_on b k (class_of b n) l)) l
+
 -- a wire has one rectangle; a via has a pad on each layer of its span and no wire
 abbrev pub leg_shapes : BoardParts → NetId → Node → Leg → List Shape
 leg_shapes b n from (Wire to) =
     net_shape n (segment (place_of from) (place_of to) (rule_of b to.layer (class_of b n)).half) to.layer ∷ []
 leg_shapes b n from (Via k to) =
-    map (net_shape n (square (place_of to) (pad_of b k (class_of b n)))) (layers_from (kind_of b k).first (kind_of b k).last)
+    map (via_shape b n k (place_of to)) (layers_from (kind_of b k).first (kind_of b k).last)
 
 -- the shapes of legs that start in a node, leg by leg
 abbrev pub legs_shapes : BoardParts → NetId → Node → List Leg → List Shape

@@ -1,6 +1,5 @@
 -- The rules between shapes: gap and outline.
 use Rattle.std.specs.Prelude.{ℤ, pos, ◌==◌, Bool, true, false, ◌&&◌, not, Option, Some, None, int_le}
-use Rattle.std.specs.Int.{int_max}
 use Rattle.geo_rect.specs.declared.ids.ClassId.{ClassId}
 use Rattle.geo_rect.specs.declared.ids.LayerId.{LayerId}
 use Rattle.geo_rect.specs.declared.ids.NetId.{NetId}
@@ -8,13 +7,13 @@ use Rattle.geo_rect.specs.declared.shapes.Rect.{Rect}
 use Rattle.geo_rect.specs.Tests.{are_too_close}
 use Rattle.board_model.specs.declared.parts.BoardParts.{BoardParts}
 use Rattle.board_model.specs.declared.shapes.Shape.{Shape}
-use Rattle.board_model.specs.Lookup.{rule_of, class_of}
+use Rattle.board_model.specs.Lookup.{rule_of, gap_of, class_of}
 
--- the gap that a class keeps on a layer to what an owner has: to a net the greater of the gaps of
--- the two classes, to a blockage the class's own
+-- the gap that a class keeps on a layer to what an owner has: to a net that of the two classes, to a
+-- blockage that of the class's rule
 abbrev pub gap_to : BoardParts → LayerId → ClassId → Option NetId → ℤ
 gap_to b l c None = (rule_of b l c).gap
-gap_to b l c (Some n) = int_max (rule_of b l c).gap (rule_of b l (class_of b n)).gap
+gap_to b l c (Some n) = gap_of b l c (class_of b n)
 
 -- the gap between what two owners have on a layer (blockages keep none to one another)
 abbrev pub gap_between : BoardParts → LayerId → Option NetId → Option NetId → ℤ

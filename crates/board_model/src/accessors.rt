@@ -1,9 +1,9 @@
 ghost use Rattle.std.specs.Prelude.{◌≡◌, ◌<◌, length, slice_index_or, []};
 ghost use Rattle.board_model.specs.Rules.{IsRule, IsMeasure, IsKind};
-ghost use Rattle.board_model.specs.Lookup.{rule_of, pad_of, kind_of, class_of};
+ghost use Rattle.board_model.specs.Lookup.{rule_of, gap_of, pad_of, inner_of, pad_on, kind_of, class_of};
 
 use crate::boards::Board;
-use crate::parts::{Block, Pin, Rule, ViaKind};
+use crate::parts::{Block, Keepout, Pin, Rule, ViaKind};
 use geo_rect::{ClassId, KindId, LayerId, NetId};
 
 impl Board {
@@ -59,7 +59,21 @@ impl Board {
         self.parts.rules.as_slice()[l.0 as usize * self.parts.classes.len() + c.0 as usize]
     }
 
-    /// Half the width of the pad of a kind's via for a class, in micrometres.
+    /// The gap between two classes on a layer, in micrometres.
+    pub fn gap(&self, l: LayerId, a: ClassId, b: ClassId) -> i32
+        requires layer { l.0 < length self.now.parts.layers }
+        requires first { a.0 < length self.now.parts.classes }
+        requires second { b.0 < length self.now.parts.classes }
+        ensures value { result ≡ gap_of self.now.parts l a b }
+        ensures measure { IsMeasure result }
+    {
+        let classes = self.parts.classes.len();
+        let row = l.0 as usize * classes + a.0 as usize;
+        self.parts.gaps.as_slice()[row * classes + b.0 as usize]
+    }
+
+    /// Half the width of the pad of a kind's via for a class on the first and the last layer, in
+    /// micrometres.
     pub fn pad(&self, k: KindId, c: ClassId) -> i32
         requires kind { k.0 < length self.now.parts.kinds }
         requires class { c.0 < length self.now.parts.classes }
@@ -67,6 +81,34 @@ impl Board {
         ensures measure { IsMeasure result }
     {
         self.parts.pads.as_slice()[k.0 as usize * self.parts.classes.len() + c.0 as usize]
+    }
+
+    /// Half the width of the pad of a kind's via for a class on each layer between the first and the
+    /// last, in micrometres. For a kind of two layers it is that of the pad.
+    pub fn inner(&self, k: KindId, c: ClassId) -> i32
+        requires kind { k.0 < length self.now.parts.kinds }
+        requires class { c.0 < length self.now.parts.classes }
+        ensures value { result ≡ inner_of self.now.parts k c }
+        ensures measure { IsMeasure result }
+    {
+        self.parts.inners.as_slice()[k.0 as usize * self.parts.classes.len() + c.0 as usize]
+    }
+
+    /// Half the width of the pad of a kind's via for a class on a layer, in micrometres.
+    pub fn pad_on(&self, k: KindId, c: ClassId, l: LayerId) -> i32
+        requires kind { k.0 < length self.now.parts.kinds }
+        requires class { c.0 < length self.now.parts.classes }
+        ensures value { result ≡ pad_on self.now.parts k c l }
+        ensures measure { IsMeasure result }
+    {
+        let kind = self.kind(k);
+        if l.0 == kind.first.0 {
+            return self.pad(k, c);
+        }
+        if l.0 == kind.last.0 {
+            return self.pad(k, c);
+        }
+        self.inner(k, c)
     }
 
     /// The layers that a kind of via joins, and what one costs.
@@ -92,6 +134,13 @@ impl Board {
         ensures { result.now ≡ self.now.parts.blocks }
     {
         self.parts.blocks.as_slice()
+    }
+
+    /// The keep-outs, in the order of the text.
+    pub fn keepouts(&self) -> &[Keepout]
+        ensures { result.now ≡ self.now.parts.keepouts }
+    {
+        self.parts.keepouts.as_slice()
     }
 
     /// The pins, in the order of the text.

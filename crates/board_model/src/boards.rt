@@ -8,7 +8,7 @@ use geo_rect::{ClassId, KindId, LayerId, NetId, NoMemory};
 use std::alloc::Global;
 
 /// A board that keeps every rule of the board text, with its names found without a scan.
-#[derive(Debug, Drop)]
+#[derive(Drop)]
 pub struct Board {
     pub parts: BoardParts,
     layer_names: NameIndex,

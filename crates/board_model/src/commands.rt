@@ -1,7 +1,7 @@
 use geo_rect::{ClassId, LayerId, NetId};
 
 /// What a board text asks for.
-#[derive(Clone, Copy, Debug, PartialEq, Eq)]
+#[derive(Clone, Copy)]
 pub enum Command {
     /// Make the net's missing connections.
     Route(NetId),

@@ -1,15 +1,15 @@
 //! The shapes of a connection: the wires and the pads of its vias.
 
 ghost use Rattle.std.specs.Prelude.{◌≡◌, ◌++◌, ◌<◌, length, map, IfOk, OnOk};
-ghost use Rattle.board_model.specs.Lookup.{layers_from};
-ghost use Rattle.board_model.specs.Shapes.{net_shape, leg_shapes, conn_shapes};
-ghost use Rattle.board_model.specs.WellFormed.{IsCorner, IsStep, IsWellFormed};
+ghost use Rattle.board_model.specs.Lookup.{kind_of, layers_from};
+ghost use Rattle.board_model.specs.Shapes.{place_of, net_shape, via_shape, leg_shapes, conn_shapes};
+ghost use Rattle.board_model.specs.WellFormed.{IsPlace, IsCorner, IsStep, IsWellFormed};
 
 use crate::boards::Board;
 use crate::made::{Conn, Leg};
 use crate::segments::{segment, square};
 use crate::shapes::Shape;
-use geo_rect::{LayerId, List, NetId, NoMemory, Node, Rect};
+use geo_rect::{KindId, LayerId, List, NetId, NoMemory, Node, Rect};
 use std::alloc::Global;
 
 /// The shapes of a connection of a net, leg by leg: of a wire its rectangle, of a via its pad on
@@ -68,12 +68,35 @@ fn push_leg(
             layer: to.layer,
             owner: Some(net),
         }),
-        Leg::Via(kind, to) => {
-            let span = board.kind(kind);
-            let pad = square(to, board.pad(kind, class));
-            push_layers(shapes, net, pad, span.first, span.last)
-        }
+        Leg::Via(kind, to) => push_pads(shapes, board, net, kind, to),
     }
+}
+
+/// Adds the pads of a via of a net, one on each layer of its kind's span.
+fn push_pads(
+    shapes: &mut List<Shape>,
+    board: &Board,
+    net: NetId,
+    kind: KindId,
+    to: Node,
+) -> Result<(), NoMemory>
+    requires net { net.0 < length board.now.parts.net_names }
+    requires kind { kind.0 < length board.now.parts.kinds }
+    requires place { IsPlace (place_of to) }
+    ensures { OnOk result
+        (shapes.new ≡ shapes.old ++ map (via_shape board.now.parts net kind (place_of to)) (layers_from (kind_of board.now.parts kind).first (kind_of board.now.parts kind).last)) }
+{
+    let class = board.class_of(net);
+    let span = board.kind(kind);
+    for layer in span.first.0..=span.last.0 {
+        let layer = LayerId(layer);
+        shapes.push(Shape {
+            area: square(to, board.pad_on(kind, class, layer)),
+            layer,
+            owner: Some(net),
+        })?;
+    }
+    Ok(())
 }
 
 /// Adds the shapes of a net's area on each layer from the first to the last.

@@ -8,8 +8,8 @@ use crate::boards::Board;
 use geo_rect::{ClassId, LayerId, NetId};
 
 impl Board {
-    /// The gap that a class keeps on a layer to what an owner has, in micrometres: to a net the
-    /// greater of the gaps of the two classes, to a blockage the class's own.
+    /// The gap that a class keeps on a layer to what an owner has, in micrometres: to a net that of
+    /// the two classes, to a blockage that of the class's rule.
     pub fn gap_to(&self, l: LayerId, c: ClassId, owner: Option<NetId>) -> i32
         requires layer { l.0 < length self.now.parts.layers }
         requires class { c.0 < length self.now.parts.classes }
@@ -17,10 +17,9 @@ impl Board {
         ensures value { result ≡ gap_to self.now.parts l c owner }
         ensures measure { IsMeasure result }
     {
-        let own = self.rule(l, c).gap;
         match owner {
-            None => own,
-            Some(n) => own.max(self.rule(l, self.class_of(n)).gap),
+            None => self.rule(l, c).gap,
+            Some(n) => self.gap(l, c, self.class_of(n)),
         }
     }
 

@@ -1,7 +1,7 @@
 //! The limits of a board text.
 
 /// The greatest width and height of a board, in micrometres.
-pub const MAX_SIDE: i32 = 1_048_576;
+pub const MAX_SIDE: i32 = 8_388_608;
 
 pub const MAX_LAYERS: usize = 8;
 
@@ -13,6 +13,7 @@ pub const MAX_NETS: usize = 16_384;
 
 pub const MAX_PINS: usize = 32_768;
 
+/// The greatest number of blockages and keep-outs together.
 pub const MAX_BLOCKS: usize = 8_192;
 
 /// The greatest half width of a wire, gap, and half width of a via's pad, in micrometres.

@@ -9,7 +9,7 @@ use std::alloc::Global;
 
 /// A step of a connection: a wire in a line to a node of the same layer, or a via of a kind to a
 /// node of another layer at the same place.
-#[derive(Clone, Copy, Debug, PartialEq, Eq)]
+#[derive(Clone, Copy, PartialEq, Eq)]
 pub enum Leg {
     Wire(Node),
     Via(KindId, Node),
@@ -28,7 +28,7 @@ impl Leg {
 }
 
 /// A connection: where it starts, its legs, and its stated cost in micrometres of wire.
-#[derive(Debug, Drop)]
+#[derive(Drop)]
 pub struct Conn {
     pub start: Node,
     pub legs: List<Leg>,
@@ -36,7 +36,7 @@ pub struct Conn {
 }
 
 /// The connections that are made: a list for each net, in the order of the text.
-#[derive(Debug, Drop)]
+#[derive(Drop)]
 pub struct Made {
     pub lists: List<List<Conn>>,
 }

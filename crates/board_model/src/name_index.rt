@@ -6,7 +6,7 @@ use std::alloc::Global;
 use std::marker::Model;
 
 /// A list of names, no two of them alike, that finds a name's place without a scan.
-#[derive(Debug, Drop)]
+#[derive(Drop)]
 pub struct NameIndex {
     names: IndexSet<String>,
 }

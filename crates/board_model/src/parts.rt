@@ -5,7 +5,7 @@ use geo_rect::{ClassId, LayerId, List, NetId, NoMemory, Rect, Text};
 use std::alloc::Global;
 
 /// What a class of nets keeps on a layer, in micrometres.
-#[derive(Clone, Copy, Debug)]
+#[derive(Clone, Copy)]
 pub struct Rule {
     /// Half the width of a wire.
     pub half: i32,
@@ -15,7 +15,7 @@ pub struct Rule {
 
 /// A kind of via: the layers that it joins, from the first to the last, and what one costs, in
 /// micrometres of wire.
-#[derive(Clone, Copy, Debug)]
+#[derive(Clone, Copy)]
 pub struct ViaKind {
     pub first: LayerId,
     pub last: LayerId,
@@ -23,14 +23,23 @@ pub struct ViaKind {
 }
 
 /// A blockage: an area of a layer that no net may come near.
-#[derive(Clone, Copy, Debug)]
+#[derive(Clone, Copy)]
 pub struct Block {
     pub layer: LayerId,
     pub area: Rect,
 }
 
+/// A keep-out: an area of a layer that no wire may come near, or no via.
+#[derive(Clone, Copy)]
+pub struct Keepout {
+    /// Whether wires are kept out; if not, vias are.
+    pub wires: bool,
+    pub layer: LayerId,
+    pub area: Rect,
+}
+
 /// A pin: an area of a net, on each layer from the first to the last.
-#[derive(Clone, Copy, Debug)]
+#[derive(Clone, Copy)]
 pub struct Pin {
     pub net: NetId,
     pub area: Rect,
@@ -39,7 +48,7 @@ pub struct Pin {
 }
 
 /// A board as its plain lists, each in the order of the text.
-#[derive(Debug, Drop)]
+#[derive(Drop)]
 pub struct BoardParts {
     pub name: Text,
     /// In micrometres, as the height: the board is the points from `0` to `width` and `0` to `height`.
@@ -49,11 +58,19 @@ pub struct BoardParts {
     pub classes: List<Text>,
     /// One for each layer, and in it each class.
     pub rules: List<Rule>,
+    /// The gap of two classes, in micrometres: one for each layer, in it each first class, and in that
+    /// each second class.
+    pub gaps: List<i32>,
     pub kind_names: List<Text>,
     pub kinds: List<ViaKind>,
-    /// Half the width of a via's pad, in micrometres: one for each kind, and in it each class.
+    /// Half the width of a via's pad on its first and its last layer, in micrometres: one for each kind,
+    /// and in it each class.
     pub pads: List<i32>,
+    /// Half the width of a via's pad on the layers between its first and its last, in micrometres: one
+    /// for each kind, and in it each class. It is that of the pad where there are no such layers.
+    pub inners: List<i32>,
     pub blocks: List<Block>,
+    pub keepouts: List<Keepout>,
     pub net_names: List<Text>,
     pub net_classes: List<ClassId>,
     pub pins: List<Pin>,
@@ -71,10 +88,13 @@ impl BoardParts {
             layers: List::new(alloc),
             classes: List::new(alloc),
             rules: List::new(alloc),
+            gaps: List::new(alloc),
             kind_names: List::new(alloc),
             kinds: List::new(alloc),
             pads: List::new(alloc),
+            inners: List::new(alloc),
             blocks: List::new(alloc),
+            keepouts: List::new(alloc),
             net_names: List::new(alloc),
             net_classes: List::new(alloc),
             pins: List::new(alloc),

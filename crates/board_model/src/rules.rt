@@ -1,10 +1,10 @@
 //! Whether one item of a board keeps its rules.
 
 ghost use Rattle.std.specs.Prelude.{◌↔◌, IsTrue, length, All};
-ghost use Rattle.board_model.specs.Rules.{IsWordByte, IsName, IsSide, IsMeasure, IsRule, IsKind, IsBlock, IsPin};
+ghost use Rattle.board_model.specs.Rules.{IsWordByte, IsName, IsSide, IsMeasure, IsRule, IsKind, IsBlock, IsKeepout, IsPin};
 
 use crate::limits::{MAX_CHARGE, MAX_MEASURE, MAX_NAME, MAX_SIDE};
-use crate::parts::{Block, BoardParts, Pin, Rule, ViaKind};
+use crate::parts::{Block, BoardParts, Keepout, Pin, Rule, ViaKind};
 
 fn is_word_byte(byte: &u8) -> bool
     ensures { IsTrue result ↔ IsWordByte byte.now }
@@ -75,10 +75,7 @@ pub fn is_kind(layers: usize, kind: ViaKind) -> bool
     if kind.last.0 as usize >= layers {
         return false;
     }
-    if kind.last.0 == 0 {
-        return false;
-    }
-    if kind.last.0 - 1 != kind.first.0 {
+    if kind.first.0 >= kind.last.0 {
         return false;
     }
     if kind.charge > MAX_CHARGE {
@@ -94,6 +91,15 @@ pub fn is_block(parts: &BoardParts, block: Block) -> bool
         return false;
     }
     parts.has_area(block.area)
+}
+
+pub fn is_keepout(parts: &BoardParts, keepout: Keepout) -> bool
+    ensures { IsTrue result ↔ IsKeepout parts.now keepout }
+{
+    if keepout.layer.0 as usize >= parts.layers.len() {
+        return false;
+    }
+    parts.has_area(keepout.area)
 }
 
 pub fn is_pin(parts: &BoardParts, pin: Pin) -> bool

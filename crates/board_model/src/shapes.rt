@@ -1,7 +1,7 @@
 use geo_rect::{LayerId, NetId, Rect};
 
 /// A rectangle of copper, or of a blockage, on a layer. The class of a shape is its owner's class.
-#[derive(Clone, Copy, Debug, PartialEq, Eq)]
+#[derive(Clone, Copy, PartialEq, Eq)]
 pub struct Shape {
     pub area: Rect,
     pub layer: LayerId,

@@ -22,6 +22,9 @@ fn add_layers(alloc: Global, parts: &mut BoardParts) -> Result<(), NoMemory> {
     for _ in 0..4 {
         parts.rules.push(Rule { half: 1, gap: 2 })?;
     }
+    for gap in [2, 3, 3, 2, 2, 2, 2, 2] {
+        parts.gaps.push(gap)?;
+    }
     Ok(())
 }
 
@@ -33,8 +36,11 @@ fn add_kind(alloc: Global, parts: &mut BoardParts) -> Result<(), NoMemory> {
         last: LayerId(1),
         charge: 5,
     })?;
-    parts.pads.push(2)?;
-    parts.pads.push(3)
+    for pad in [2, 3] {
+        parts.pads.push(pad)?;
+        parts.inners.push(pad)?;
+    }
+    Ok(())
 }
 
 /// Two nets, of which the first has the last two pins, and a blockage.
@@ -65,7 +71,7 @@ fn is_board_of_width(parts: &mut BoardParts, width: i32) -> bool {
 }
 
 fn tells_boards(parts: &mut BoardParts) -> bool {
-    if is_board_of_width(parts, 1_048_577) {
+    if is_board_of_width(parts, 8_388_609) {
         return false;
     }
     if is_board_of_width(parts, 23) {
@@ -74,7 +80,7 @@ fn tells_boards(parts: &mut BoardParts) -> bool {
     if !is_board_of_width(parts, 24) {
         return false;
     }
-    is_board_of_width(parts, 1_048_576)
+    is_board_of_width(parts, 8_388_608)
 }
 
 #[test]

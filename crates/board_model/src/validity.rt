@@ -2,13 +2,14 @@
 
 ghost use Rattle.std.specs.Prelude.{◌↔◌, ◌<◌, ◌≤◌, IsTrue, length, All};
 ghost use Rattle.geo_rect.specs.declared.ids.ClassId.{ClassId};
-ghost use Rattle.board_model.specs.Rules.{IsBoard, IsRule, IsKind, IsMeasure, IsBlock, IsPin, AreNames};
-ghost use Rattle.board_model.specs.Groups.{HasFrame, HasLayers, HasRules, HasKinds, HasNets, HasAreas};
+ghost use Rattle.board_model.specs.Rules.{IsBoard, IsRule, IsKind, IsMeasure, IsBlock, IsKeepout, IsPin, AreNames};
+ghost use Rattle.board_model.specs.Groups.{HasFrame, HasLayers, HasRules, HasGaps, HasKinds, HasInners, HasNets, HasAreas};
 
 use crate::limits::{MAX_BLOCKS, MAX_CLASSES, MAX_KINDS, MAX_LAYERS, MAX_NETS, MAX_PINS};
 use crate::names::are_names;
-use crate::parts::{Block, BoardParts, Pin, Rule, ViaKind};
-use crate::rules::{is_block, is_kind, is_measure, is_name, is_pin, is_rule, is_side};
+use crate::pairs::{are_gaps_of_pairs, are_plain_without_inner};
+use crate::parts::{Block, BoardParts, Keepout, Rule, ViaKind};
+use crate::rules::{is_block, is_keepout, is_kind, is_measure, is_name, is_pin, is_rule, is_side};
 use geo_rect::ClassId;
 
 impl BoardParts {
@@ -26,7 +27,13 @@ impl BoardParts {
         if !has_rules(self) {
             return false;
         }
+        if !has_gaps(self) {
+            return false;
+        }
         if !has_kinds(self) {
+            return false;
+        }
+        if !has_inners(self) {
             return false;
         }
         if !has_nets(self) {
@@ -74,6 +81,21 @@ fn has_rules(parts: &BoardParts) -> bool
     parts.rules.as_slice().iter().all(is_rule)
 }
 
+fn has_gaps(parts: &BoardParts) -> bool
+    requires layers { length parts.now.layers ≤ MAX_LAYERS }
+    requires classes { length parts.now.classes ≤ MAX_CLASSES }
+    ensures { IsTrue result ↔ HasGaps parts.now }
+{
+    let classes = parts.classes.len();
+    if parts.gaps.len() != parts.layers.len() * classes * classes {
+        return false;
+    }
+    if !parts.gaps.as_slice().iter().all(is_measure) {
+        return false;
+    }
+    are_gaps_of_pairs(parts)
+}
+
 fn are_kinds(layers: usize, kinds: &[ViaKind]) -> bool
     ensures { IsTrue result ↔ All (IsKind layers) kinds.now }
 {
@@ -99,6 +121,20 @@ fn has_kinds(parts: &BoardParts) -> bool
     parts.pads.as_slice().iter().all(is_measure)
 }
 
+fn has_inners(parts: &BoardParts) -> bool
+    requires classes { length parts.now.classes ≤ MAX_CLASSES }
+    requires kinds { HasKinds parts.now }
+    ensures { IsTrue result ↔ HasInners parts.now }
+{
+    if parts.inners.len() != parts.kinds.len() * parts.classes.len() {
+        return false;
+    }
+    if !parts.inners.as_slice().iter().all(is_measure) {
+        return false;
+    }
+    are_plain_without_inner(parts)
+}
+
 fn has_nets(parts: &BoardParts) -> bool
     ensures { IsTrue result ↔ HasNets parts.now }
 {
@@ -119,16 +155,28 @@ fn are_blocks(parts: &BoardParts, blocks: &[Block]) -> bool
     blocks.iter().all(|block| is_block(parts, *block))
 }
 
+fn are_keepouts(parts: &BoardParts, keepouts: &[Keepout]) -> bool
+    ensures { IsTrue result ↔ All (IsKeepout parts.now) keepouts.now }
+{
+    keepouts.iter().all(|keepout| is_keepout(parts, *keepout))
+}
+
 fn has_areas(parts: &BoardParts) -> bool
     ensures { IsTrue result ↔ HasAreas parts.now }
 {
     if parts.blocks.len() > MAX_BLOCKS {
         return false;
     }
+    if parts.keepouts.len() > MAX_BLOCKS - parts.blocks.len() {
+        return false;
+    }
     if parts.pins.len() > MAX_PINS {
         return false;
     }
     if !are_blocks(parts, parts.blocks.as_slice()) {
+        return false;
+    }
+    if !are_keepouts(parts, parts.keepouts.as_slice()) {
         return false;
     }
     let pins = parts.pins.as_slice();

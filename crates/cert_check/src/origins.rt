@@ -7,18 +7,18 @@ ghost use Rattle.route_law.specs.Ground.{Ground, IsWireStrip};
 ghost use Rattle.route_law.specs.Moves.{arrival_of, IsEdgeMove, IsViaMove};
 ghost use Rattle.route_law.specs.Right.{IsWellPlaced, IsStart, IsFromSource, IsFromEntry, IsFrom};
 ghost use Rattle.strip_moves.specs.Grounds.{ground_of};
-ghost use Rattle.board_model.specs.Labels.{IsInSpan};
 ghost use Rattle.cert_check.specs.Fronts.{IsBoundedEntry};
 ghost use Rattle.cert_check.specs.Stages.{ArePlaced};
 
 use crate::fronts::is_moved;
 use crate::passages::via_passage;
 use crate::rects::{corner, is_meet, meet_of_three};
-use board_model::{Board, ViaKind};
-use geo_rect::{KindId, LayerId, NetId, Spot, edge, same_rect};
+use board_model::Board;
+use geo_rect::{KindId, NetId, Spot, edge, same_rect};
 use plane_core::Plane;
 use plane_set::PlaneSet;
 use route_law::{Entry, Origin};
+use strip_moves::joins;
 
 /// Whether the entry starts, at no cost, with what its strip has of the box.
 fn is_start(source: Spot, e: Entry) -> bool
@@ -89,29 +89,6 @@ fn is_from_step(entries: &[Entry], n: usize, m: u64, e: Entry) -> bool
         return false;
     };
     is_edge_move(from, e)
-}
-
-/// Whether a via of the kind has a pad on the layer.
-fn is_in_span(kind: ViaKind, l: LayerId) -> bool
-    ensures { IsTrue result ↔ IsInSpan kind l }
-{
-    if l.0 < kind.first.0 {
-        return false;
-    }
-    l.0 <= kind.last.0
-}
-
-/// Whether the kind joins the layers of the two entries, and these are two.
-fn joins(kind: ViaKind, from: LayerId, to: LayerId) -> bool
-    ensures { IsTrue result ↔ (IsInSpan kind from × IsInSpan kind to × to ≢ from) }
-{
-    if !is_in_span(kind, from) {
-        return false;
-    }
-    if !is_in_span(kind, to) {
-        return false;
-    }
-    to.0 != from.0
 }
 
 /// Whether `to` comes from `from` through a via of the kind.

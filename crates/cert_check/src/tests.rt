@@ -1,5 +1,6 @@
 ghost use Rattle.std.specs.Prelude.{All, IfSome, IsTrue};
 ghost use Rattle.std.specs.Option.{option_copied};
+ghost use Rattle.board_model.specs.Rules.{IsOnBoard};
 ghost use Rattle.board_model.specs.Shapes.{place_of};
 ghost use Rattle.board_model.specs.WellFormed.{IsCoordinate, IsPlace};
 ghost use Rattle.walk_check.specs.Corners.{HasPlaces};
@@ -40,6 +41,7 @@ fn fill(alloc: Global, parts: &mut BoardParts, wall: Rect) -> Result<(), NoMemor
     parts.layers.push(Text::from_str(alloc, "top")?)?;
     parts.classes.push(Text::from_str(alloc, "thin")?)?;
     parts.rules.push(Rule { half: 1, gap: 2 })?;
+    parts.gaps.push(2)?;
     parts.net_names.push(Text::from_str(alloc, "a")?)?;
     parts.net_classes.push(ClassId(0))?;
     parts.blocks.push(Block {
@@ -57,19 +59,28 @@ fn board_with(rt: &impl Abort, alloc: Global, wall: Rect) -> Result<Board, NoMem
     Board::build(alloc, parts)
 }
 
+fn is_within(area: Rect, width: i32, height: i32) -> bool
+    ensures { IsTrue result → IsOnBoard width height area }
+{
+    if area.x0 < 0 {
+        return false;
+    }
+    if area.y0 < 0 {
+        return false;
+    }
+    if area.x1 > width {
+        return false;
+    }
+    area.y1 <= height
+}
+
 fn is_on_board(board: &Board, spot: Spot) -> bool
     ensures { IsTrue result → IsBoardBox board.now.parts spot }
 {
     if spot.layer.0 >= board.layers() {
         return false;
     }
-    if spot.area.x0 < 0 || spot.area.y0 < 0 {
-        return false;
-    }
-    if spot.area.x1 > board.width() {
-        return false;
-    }
-    spot.area.y1 <= board.height()
+    is_within(spot.area, board.width(), board.height())
 }
 
 fn are_on_board(board: &Board, spots: &[Spot]) -> bool

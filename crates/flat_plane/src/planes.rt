@@ -10,7 +10,7 @@ use std::alloc::Global;
 use std::marker::Model;
 
 /// A plane that keeps its strips as one list in order.
-#[derive(Debug, Drop)]
+#[derive(Drop)]
 pub struct FlatPlane {
     domain: Rect,
     strips: List<Strip>,

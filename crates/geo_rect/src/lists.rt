@@ -5,7 +5,7 @@ use std::alloc::Global;
 use std::marker::Model;
 
 /// A list that grows at its end.
-#[derive(Debug, Drop)]
+#[derive(Drop)]
 pub struct List<T> {
     pub items: Vec<T>,
 }
@@ -82,7 +82,7 @@ impl<T: Copy> List<T> {
 }
 
 /// A text, which contracts see as the list of its bytes.
-#[derive(Debug, Drop)]
+#[derive(Drop)]
 pub struct Text {
     pub text: String,
 }

@@ -18,6 +18,7 @@ fn small_board(alloc: Global) -> Result<Option<Board>, NoMemory> {
     parts.layers.push(Text::from_str(alloc, "top")?)?;
     parts.classes.push(Text::from_str(alloc, "sig")?)?;
     parts.rules.push(Rule { half: 1, gap: 2 })?;
+    parts.gaps.push(2)?;
     if parts.is_board() {
         return Ok(Some(Board::build(alloc, parts)?));
     }

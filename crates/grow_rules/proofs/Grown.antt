@@ -10,8 +10,8 @@ use Rattle.geo_rect.specs.Plane.{HasPoint, IsBounded, IsGrown, IsTooClose, squar
 use Rattle.geo_rect.proofs.Squares.{grown_square}
 use Rattle.board_model.specs.declared.parts.BoardParts.{BoardParts}
 use Rattle.board_model.specs.declared.shapes.Shape.{Shape}
-use Rattle.board_model.specs.Lookup.{rule_of, pad_of, kind_of}
-use Rattle.board_model.specs.Rules.{IsMeasure}
+use Rattle.board_model.specs.Lookup.{rule_of, pad_on, kind_of}
+use Rattle.board_model.specs.Rules.{IsBoard, IsMeasure, IsOnBoard}
 use Rattle.board_model.specs.Spacing.{gap_to}
 use Rattle.board_model.specs.Labels.{Hits, IsInSpan, wire_plane, via_plane}
 use Rattle.board_model.proofs.LabelHits.{wire_hits, via_hits}
@@ -31,6 +31,20 @@ module _ (b r : Rect) (h s g : ℤ) (half : IsMeasure h) (gap : IsMeasure s) (is
       let last = w.close high has_high in
       record { across = record { from = omega (arith, ints); to = omega (arith, ints) }; up = record { from = omega (arith, ints); to = omega (arith, ints) } }
 
+-- an area of a board lies near the origin
+pub near_board : (b : BoardParts) (r : Rect) → IsBoard b → IsOnBoard b.width b.height r → IsNearOrigin r
+near_board b r is on =
+    let w = is.width in
+    let h = is.height in
+    record {
+      across = record { from = omega (arith, ints, on.left); to = omega (arith, ints, on.right, w.to) };
+      up = record { from = omega (arith, ints, on.below); to = omega (arith, ints, on.above, h.to) };
+    }
+
+-- the same for an equal half width
+pub same_points : (area r : Rect) (h k s : ℤ) → h ≡ k → ((p : Point) → HasPoint r p ↔ IsTooClose (square p h) area s) → (p : Point) → HasPoint r p ↔ IsTooClose (square p k) area s
+same_points area r h k s e points p = subst (λ (z : ℤ). HasPoint r p ↔ IsTooClose (square p z) area s) e (points p)
+
 module _ (b : BoardParts) (c : ClassId) (s : Shape) (r : Rect) (h g : ℤ) (p : Point) (points : HasPoint r p ↔ IsTooClose (square p h) s.area g) where
   pub wire_points : (l : LayerId) → s.layer ≡ l → h ≡ (rule_of b l c).half → g ≡ gap_to b l c s.owner → HasPoint r p ↔ Hits (wire_plane b l c) p s
   wire_points l on eh eg =
@@ -40,10 +54,10 @@ module _ (b : BoardParts) (c : ClassId) (s : Shape) (r : Rect) (h g : ℤ) (p : 
       let u = wire_hits b c p s l in
       (λ q. u.1 (on, t.0 q), λ q. t.1 (u.0 q).1)
 
-  pub via_points : (k : KindId) → IsInSpan (kind_of b k) s.layer → h ≡ pad_of b k c → g ≡ gap_to b s.layer c s.owner → HasPoint r p ↔ Hits (via_plane b k c) p s
+  pub via_points : (k : KindId) → IsInSpan (kind_of b k) s.layer → h ≡ pad_on b k c s.layer → g ≡ gap_to b s.layer c s.owner → HasPoint r p ↔ Hits (via_plane b k c) p s
   via_points k on eh eg =
       let P : ℤ → Type 0 = λ z. HasPoint r p ↔ IsTooClose (square p z) s.area g in
-      let Q : ℤ → Type 0 = λ z. HasPoint r p ↔ IsTooClose (square p (pad_of b k c)) s.area z in
+      let Q : ℤ → Type 0 = λ z. HasPoint r p ↔ IsTooClose (square p (pad_on b k c s.layer)) s.area z in
       let t : Q (gap_to b s.layer c s.owner) = subst Q eg (subst P eh points) in
       let u = via_hits b c p s k in
       (λ q. u.1 (on, t.0 q), λ q. t.1 (u.0 q).1)

@@ -1,12 +1,12 @@
-//! Where a shape keeps the middles of wires and vias away.
+//! Where a shape, or the area of a keep-out, keeps the middles of wires and vias away.
 
-ghost use Rattle.std.specs.Prelude.{◌≡◌, ◌<◌, ◌↔◌, length};
+ghost use Rattle.std.specs.Prelude.{◌≡◌, ◌<◌, ◌↔◌, length, pos};
 ghost use Rattle.geo_rect.specs.declared.shapes.Point.{Point};
 ghost use Rattle.geo_rect.specs.Plane.{HasPoint, IsBounded, IsTooClose, square};
 ghost use Rattle.board_model.specs.Known.{IsKnown, IsNearOrigin};
-ghost use Rattle.board_model.specs.Lookup.{kind_of};
+ghost use Rattle.board_model.specs.Lookup.{rule_of, pad_on, kind_of};
 ghost use Rattle.board_model.specs.Labels.{Hits, IsInSpan, wire_plane, via_plane};
-ghost use Rattle.board_model.specs.Rules.{IsMeasure};
+ghost use Rattle.board_model.specs.Rules.{IsMeasure, IsOnBoard};
 
 use board_model::{Board, Shape};
 use geo_rect::{ClassId, KindId, LayerId, Rect, grown};
@@ -36,9 +36,38 @@ pub fn via_grow(board: &Board, k: KindId, c: ClassId, s: &Shape) -> Rect
         → HasPoint result p ↔ Hits (via_plane board.now.parts k c) p s.now }
     ensures bounded { IsBounded result }
 {
-    let pad = board.pad(k, c);
+    let pad = board.pad_on(k, c, s.layer);
     let gap = board.gap_to(s.layer, c, s.owner);
     kept_away(s.area, pad, gap)
+}
+
+/// The points at which a wire of class `c` on layer `l` is too close to an area that is kept free of
+/// wires there.
+pub fn wire_keep(board: &Board, l: LayerId, c: ClassId, area: Rect) -> Rect
+    requires layer { l.0 < length board.now.parts.layers }
+    requires class { c.0 < length board.now.parts.classes }
+    requires area { IsOnBoard board.now.parts.width board.now.parts.height area }
+    ensures points { (p : Point) → HasPoint result p
+        ↔ IsTooClose (square p (rule_of board.now.parts l c).half) area (pos 1) }
+    ensures bounded { IsBounded result }
+{
+    let half = board.rule(l, c).half;
+    kept_away(area, half, 1)
+}
+
+/// The points at which a via of kind `k` of class `c` has a pad on layer `l`, one of the kind's span,
+/// that is too close to an area that is kept free of vias there.
+pub fn via_keep(board: &Board, k: KindId, c: ClassId, l: LayerId, area: Rect) -> Rect
+    requires kind { k.0 < length board.now.parts.kinds }
+    requires class { c.0 < length board.now.parts.classes }
+    requires span { IsInSpan (kind_of board.now.parts k) l }
+    requires area { IsOnBoard board.now.parts.width board.now.parts.height area }
+    ensures points { (p : Point) → HasPoint result p
+        ↔ IsTooClose (square p (pad_on board.now.parts k c l)) area (pos 1) }
+    ensures bounded { IsBounded result }
+{
+    let pad = board.pad_on(k, c, l);
+    kept_away(area, pad, 1)
 }
 
 /// The points whose square of this half width is too close to the area for the gap.

@@ -1,5 +1,5 @@
-//! The rectangles that paint the labels of planes: a shape grown by what a wire or a via keeps from
-//! it, and the frame of a board. Nothing here takes memory. All lengths are whole micrometres.
+//! The rectangles that paint the labels of planes: a shape or a keep-out grown by what a wire or a via
+//! keeps from it, and the frame of a board. Nothing here takes memory. All lengths are whole micrometres.
 #![tactic(auto)]
 
 mod ends;
@@ -9,4 +9,4 @@ mod grows;
 mod tests;
 
 pub use frames::frame;
-pub use grows::{via_grow, wire_grow};
+pub use grows::{via_grow, via_keep, wire_grow, wire_keep};

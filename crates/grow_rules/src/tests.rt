@@ -1,7 +1,7 @@
 ghost use Rattle.std.specs.Prelude.{◌≡◌};
 ghost use Rattle.board_model.specs.Known.{IsKnown, IsNearOrigin};
 
-use crate::{frame, via_grow, wire_grow};
+use crate::{frame, via_grow, via_keep, wire_grow, wire_keep};
 use board_model::{Board, BoardParts, Rule, Shape, ViaKind};
 use geo_rect::{ClassId, KindId, LayerId, NetId, NoMemory, Rect, Text};
 use std::alloc::Global;
@@ -10,11 +10,15 @@ use std::test::Fail;
 
 fn add_layers(alloc: Global, parts: &mut BoardParts) -> Result<(), NoMemory> {
     parts.layers.push(Text::from_str(alloc, "top")?)?;
+    parts.layers.push(Text::from_str(alloc, "mid")?)?;
     parts.layers.push(Text::from_str(alloc, "low")?)?;
     parts.classes.push(Text::from_str(alloc, "thin")?)?;
     parts.classes.push(Text::from_str(alloc, "wide")?)?;
-    for (half, gap) in [(1, 2), (3, 5), (2, 4), (4, 3)] {
+    for (half, gap) in [(1, 2), (3, 5), (2, 4), (4, 3), (1, 3), (2, 2)] {
         parts.rules.push(Rule { half, gap })?;
+    }
+    for gap in [2, 6, 6, 5, 4, 4, 4, 3, 3, 3, 3, 2] {
+        parts.gaps.push(gap)?;
     }
     Ok(())
 }
@@ -23,11 +27,14 @@ fn add_kind(alloc: Global, parts: &mut BoardParts) -> Result<(), NoMemory> {
     parts.kind_names.push(Text::from_str(alloc, "hole")?)?;
     parts.kinds.push(ViaKind {
         first: LayerId(0),
-        last: LayerId(1),
+        last: LayerId(2),
         charge: 10,
     })?;
-    parts.pads.push(6)?;
-    parts.pads.push(8)
+    for (pad, inner) in [(6, 3), (8, 9)] {
+        parts.pads.push(pad)?;
+        parts.inners.push(inner)?;
+    }
+    Ok(())
 }
 
 fn fill(alloc: Global, parts: &mut BoardParts) -> Result<(), NoMemory> {
@@ -39,8 +46,8 @@ fn fill(alloc: Global, parts: &mut BoardParts) -> Result<(), NoMemory> {
     parts.net_classes.push(ClassId(1))
 }
 
-// Two layers, two classes with different rules on each, a kind of via over both layers, and a net of
-// each class.
+// Three layers, two classes with different rules on each and a gap of their own on the first, a kind of
+// via over all layers, with inner pads, and a net of each class.
 fn parts_of(alloc: Global, width: i32, height: i32) -> Result<BoardParts, NoMemory> {
     let mut parts = BoardParts::new(alloc, "board", width, height)?;
     fill(alloc, &mut parts)?;
@@ -107,8 +114,8 @@ fn grows_for_wires(rt: HostRuntime) -> Result<(), Fail> {
     for (layer, class, area, net, want) in [
         (0, 0, BLOCK, None, [16, -2, 24, 16]),
         (0, 0, PIN, Some(0), [2, 7, 8, 13]),
-        (0, 0, PIN, Some(1), [-1, 4, 11, 16]),
-        (0, 1, PIN, Some(0), [-3, 2, 13, 18]),
+        (0, 0, PIN, Some(1), [-2, 3, 12, 17]),
+        (0, 1, PIN, Some(0), [-4, 1, 14, 19]),
         (1, 0, BLOCK, None, [13, -5, 27, 19]),
         (1, 0, PIN, Some(1), [-1, 4, 11, 16]),
         (1, 1, PIN, Some(0), [-3, 2, 13, 18]),
@@ -129,15 +136,56 @@ fn grows_for_vias(rt: HostRuntime) -> Result<(), Fail> {
     let kind = board.kind(KindId(0));
     for (layer, class, area, net, want) in [
         (0, 0, BLOCK, None, [11, -7, 29, 21]),
-        (1, 0, BLOCK, None, [9, -9, 31, 23]),
+        (1, 0, BLOCK, None, [12, -6, 28, 20]),
+        (2, 0, BLOCK, None, [10, -8, 30, 22]),
         (0, 1, BLOCK, None, [6, -12, 34, 26]),
-        (1, 1, PIN, Some(0), [-7, -2, 17, 22]),
+        (1, 1, PIN, Some(0), [-8, -3, 18, 23]),
     ] {
         let shape = shape_of(&rt, &board, layer, area, net);
         assert!(rt; class < board.classes());
         assert!(rt; kind.first.0 <= layer);
         assert!(rt; layer <= kind.last.0);
         let found = via_grow(&board, KindId(0), ClassId(class), &shape);
+        assert_eq!(rt; found, rect_of(&rt, want), "layer {layer}, class {class}");
+    }
+    Ok(())
+}
+
+#[test]
+fn keeps_wires_out(rt: HostRuntime) -> Result<(), Fail> {
+    let board = board_of(&rt, rt.alloc(), 40, 20)?;
+    let area = rect_of(&rt, BLOCK);
+    assert!(rt; board.parts.has_area(area));
+    for (layer, class, want) in [
+        (0, 0, [17, -1, 23, 15]),
+        (0, 1, [15, -3, 25, 17]),
+        (1, 1, [14, -4, 26, 18]),
+    ] {
+        assert!(rt; layer < board.layers());
+        assert!(rt; class < board.classes());
+        let found = wire_keep(&board, LayerId(layer), ClassId(class), area);
+        assert_eq!(rt; found, rect_of(&rt, want), "layer {layer}, class {class}");
+    }
+    Ok(())
+}
+
+#[test]
+fn keeps_vias_out(rt: HostRuntime) -> Result<(), Fail> {
+    let board = board_of(&rt, rt.alloc(), 40, 20)?;
+    assert!(rt; 0 < board.kinds());
+    let kind = board.kind(KindId(0));
+    let area = rect_of(&rt, BLOCK);
+    assert!(rt; board.parts.has_area(area));
+    for (layer, class, want) in [
+        (0, 0, [12, -6, 28, 20]),
+        (1, 0, [15, -3, 25, 17]),
+        (1, 1, [9, -9, 31, 23]),
+        (2, 1, [10, -8, 30, 22]),
+    ] {
+        assert!(rt; class < board.classes());
+        assert!(rt; kind.first.0 <= layer);
+        assert!(rt; layer <= kind.last.0);
+        let found = via_keep(&board, KindId(0), ClassId(class), LayerId(layer), area);
         assert_eq!(rt; found, rect_of(&rt, want), "layer {layer}, class {class}");
     }
     Ok(())

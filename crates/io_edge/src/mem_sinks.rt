@@ -10,7 +10,7 @@ use std::alloc::Global;
 /// A sink in memory, which takes at most `most` bytes a call. A call fails where its number, from 1,
 /// stands in `fails`. Any other call fails where the bytes that it would take pass the room. A call
 /// that fails takes no byte. No write takes memory.
-#[derive(Debug, Drop)]
+#[derive(Drop)]
 pub struct MemSink {
     pub held: Vec<u8>,
     /// How many bytes it may hold.

@@ -9,7 +9,7 @@ use std::alloc::Global;
 
 /// A source in memory, which gives at most `most` bytes a call. A call fails where its number, from
 /// 1, stands in `fails`, and gives no byte then.
-#[derive(Debug, Drop)]
+#[derive(Drop)]
 pub struct MemSource {
     pub bytes: List<u8>,
     /// How many of the bytes were given.

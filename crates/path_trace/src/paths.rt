@@ -20,7 +20,7 @@ use geo_rect::{KindId, LayerId, List, NoMemory, Node, Point};
 use std::alloc::Global;
 
 /// Where a path starts, and its legs, the last one first.
-#[derive(Debug, Drop)]
+#[derive(Drop)]
 pub struct Path {
     pub start: Node,
     back: List<Leg>,

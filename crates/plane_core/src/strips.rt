@@ -27,7 +27,7 @@ impl Default for Strip {
 }
 
 /// A list of strips, of which the first eight take no memory of their own.
-#[derive(Debug, Drop)]
+#[derive(Drop)]
 pub struct Strips {
     pub items: SmallVec<Strip, 8>,
 }

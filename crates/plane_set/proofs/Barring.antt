@@ -1,5 +1,5 @@
--- The frame of a board in a plane, and what a plane shows where nothing stands.
-use Rattle.std.proofs.Common.{◌≡◌, ℤ, List, [], ◌∷◌, ◌++◌, ◌<◌, ℕ, ◌+◌, length, take, get_or, Any, Bool, true, false, ◌⊎◌, inl, inr, refl, sym, ◌∙◌, ap, subst, arith}
+-- Areas that are left to no net in a plane, and what a plane shows where nothing stands.
+use Rattle.std.proofs.Common.{◌≡◌, List, [], ◌∷◌, ◌++◌, ◌<◌, ℕ, ◌+◌, length, take, get_or, Bool, true, false, inl, inr, refl, sym, ◌∙◌, ap, subst, arith}
 use Rattle.std.proofs.lemmas.Int.{ints}
 use Rattle.std.proofs.lemmas.Bool.{false≢true}
 use Rattle.std.proofs.lemmas.List.{take_more}
@@ -8,17 +8,17 @@ use Rattle.geo_rect.specs.declared.ids.Label.{Label}
 use Rattle.geo_rect.specs.declared.ids.Label.TheVariants.{Free, Many}
 use Rattle.geo_rect.specs.declared.shapes.Point.{Point}
 use Rattle.geo_rect.specs.declared.shapes.Rect.{Rect}
-use Rattle.geo_rect.specs.Plane.{HasPoint, LiesIn, IsMeet, ShareNoPoint, square}
+use Rattle.geo_rect.specs.Plane.{HasPoint, LiesIn, IsMeet, ShareNoPoint}
 use Rattle.board_model.specs.declared.parts.BoardParts.{BoardParts}
-use Rattle.board_model.specs.Rules.{IsOnBoard}
-use Rattle.board_model.specs.Labels.{PlaneRule, FitsBoard, label_among}
-use Rattle.board_model.proofs.LabelLaws.{label_among-nil_fits, label_among-nil_leaves}
+use Rattle.board_model.specs.Labels.{PlaneRule, label_among}
+use Rattle.board_model.proofs.LabelLaws.{label_among-nil_allowed, label_among-nil_shut}
 use Rattle.grow_rules.specs.Frames.{IsBoardPoint}
 use Rattle.plane_core.specs.Labels.{has_point, IsPainted}
 use Rattle.plane_core.proofs.Labelled.{has_point_tells}
 use Rattle.plane_core.proofs.Members.{has_none}
 use Rattle.plane_set.specs.Drawings.{IsBoardArea}
 use Rattle.plane_set.specs.Joins.{HasNewLabels, IsInOneOf, IsBarred, IsPieceBarred}
+use Rattle.plane_set.specs.Shutting.{AreShutAreas}
 use Rattle.plane_set.proofs.Joining.{point_within}
 
 -- what is so in a rectangle and outside of it
@@ -33,10 +33,10 @@ by_point r p Q here there =
 pub none_barred : (domain area : Rect) (old : Point → Label) → IsBarred domain area [] old old
 none_barred domain area old = record { within = λ p a h. absurd (has_none h.area h.listed); elsewhere = λ p d n. refl }
 
-one_of_more : (done : List Rect) (r : Rect) (p : Point) → IsInOneOf done p → IsInOneOf (done ++ r ∷ []) p
+pub one_of_more : (done : List Rect) (r : Rect) (p : Point) → IsInOneOf done p → IsInOneOf (done ++ r ∷ []) p
 one_of_more done r p h = record { area = h.area; listed = Contains-append_left done (r ∷ []) h.area h.listed; has_point = h.has_point }
 
-one_of_last : (done : List Rect) (r : Rect) (p : Point) → HasPoint r p → IsInOneOf (done ++ r ∷ []) p
+pub one_of_last : (done : List Rect) (r : Rect) (p : Point) → HasPoint r p → IsInOneOf (done ++ r ∷ []) p
 one_of_last done r p h = record { area = r; listed = Contains-push done r; has_point = h }
 
 -- one piece
@@ -59,43 +59,28 @@ module _ (domain area : Rect) (old : Point → Label) (inside : LiesIn area doma
     elsewhere = λ p d n. step.elsewhere p d (λ k. n k.in_first (one_of_last done r p k.in_second)) ∙ before.elsewhere p d (λ a k. n a (one_of_more done r p k));
   }
 
-  pub barred_here : (edges : List Rect) (i : ℕ) (r : Rect) → r ≡ get_or edges i r → i < length edges → (mid new : Point → Label) → IsBarred domain area (take i edges) old mid → IsPieceBarred domain area r mid new → IsBarred domain area (take (i + 1) edges) old new
-  barred_here edges i r e h mid new before step =
-      let more : take (i + 1) edges ≡ take i edges ++ r ∷ [] = take_more edges i r h ∙ ap (λ (q : Rect). take i edges ++ q ∷ []) (sym e) in
+  pub barred_here : (pieces : List Rect) (i : ℕ) (r : Rect) → r ≡ get_or pieces i r → i < length pieces → (mid new : Point → Label) → IsBarred domain area (take i pieces) old mid → IsPieceBarred domain area r mid new → IsBarred domain area (take (i + 1) pieces) old new
+  barred_here pieces i r e h mid new before step =
+      let more : take (i + 1) pieces ≡ take i pieces ++ r ∷ [] = take_more pieces i r h ∙ ap (λ (q : Rect). take i pieces ++ q ∷ []) (sym e) in
       subst (λ (done : List Rect). IsBarred domain area done old new) (sym more)
-      (one_more_barred (take i edges) r mid new before step)
+      (one_more_barred (take i pieces) r mid new before step)
 
--- the frame in the board
+-- the plane where nothing stands
 board_point : (b : BoardParts) (r : Rect) (p : Point) → IsBoardArea b r → HasPoint r p → IsBoardPoint b p
 board_point b r p a h = record {
   across = record { from = omega (arith, ints); to = omega (arith, ints) };
   up = record { from = omega (arith, ints); to = omega (arith, ints) };
 }
 
-any_one : (edges : List Rect) (p : Point) → Any (λ (r : Rect). HasPoint r p) edges → IsInOneOf edges p
-any_one edges p (k, r, l, e, h) = record { area = r; listed = (k, l, e); has_point = h }
-
-one_any : (edges : List Rect) (p : Point) → IsInOneOf edges p → Any (λ (r : Rect). HasPoint r p) edges
-one_any edges p h = let c = h.listed in (c.0, h.area, c.1, c.2, h.has_point)
-
-module _ (b : BoardParts) (rule : PlaneRule) (half : ℤ) (same : half ≡ rule.half) (edges : List Rect)
-    (leaves : (p : Point) → Any (λ (r : Rect). HasPoint r p) edges → ¬ IsOnBoard b.width b.height (square p half))
-    (others : (p : Point) → IsBoardPoint b p → Any (λ (r : Rect). HasPoint r p) edges ⊎ IsOnBoard b.width b.height (square p half)) where
-  fits_from : (p : Point) → IsOnBoard b.width b.height (square p half) → FitsBoard b rule p
-  fits_from p h = subst (λ (z : ℤ). IsOnBoard b.width b.height (square p z)) same h
-
-  fits_to : (p : Point) → FitsBoard b rule p → IsOnBoard b.width b.height (square p half)
-  fits_to p h = subst (λ (z : ℤ). IsOnBoard b.width b.height (square p z)) (sym same) h
-
-  pub cleared : (domain area : Rect) (old mid new : Point → Label) → IsBoardArea b domain → LiesIn area domain
-      → IsPainted domain area Free old mid → IsBarred domain area edges mid new
-      → HasNewLabels domain area (label_among b rule []) old new
-  cleared domain area old mid new board inside freed barred = record {
-    within = λ p a.
-        let d : HasPoint domain p = point_within area domain p inside a in
-        elim (others p (board_point b domain p board d)) [
-          | inl any ↦ barred.within p a (any_one edges p any) ∙ sym (label_among-nil_leaves b rule p (λ f. leaves p any (fits_to p f)))
-          | inr on ↦ barred.elsewhere p d (λ q k. leaves p (one_any edges p k) on) ∙ freed.within p a ∙ sym (label_among-nil_fits b rule p (fits_from p on))
-        ];
-    elsewhere = λ p d n. barred.elsewhere p d (λ a k. n a) ∙ freed.elsewhere p d n;
-  }
+pub cleared : (b : BoardParts) (rule : PlaneRule) (domain area : Rect) (shut : List Rect) (old mid new : Point → Label) → IsBoardArea b domain → LiesIn area domain
+    → AreShutAreas b rule shut → IsPainted domain area Free old mid → IsBarred domain area shut mid new
+    → HasNewLabels domain area (label_among b rule []) old new
+cleared b rule domain area shut old mid new board inside areas freed barred = record {
+  within = λ p a.
+      let d : HasPoint domain p = point_within area domain p inside a in
+      elim (areas.others p (board_point b domain p board d)) [
+        | inl there ↦ barred.within p a there ∙ sym (label_among-nil_shut b rule p (areas.shut p there))
+        | inr allowed ↦ barred.elsewhere p d (λ q k. areas.shut p k allowed) ∙ freed.within p a ∙ sym (label_among-nil_allowed b rule p allowed)
+      ];
+  elsewhere = λ p d n. barred.elsewhere p d (λ a k. n a) ∙ freed.elsewhere p d n;
+}

@@ -4,4 +4,5 @@ pub mod Barring
 pub mod Joining
 pub mod Places
 pub mod Relabelling
+pub mod Shutting
 pub mod Standing

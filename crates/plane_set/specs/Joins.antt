@@ -32,11 +32,11 @@ pub record IsInOneOf (areas : List Rect) (p : Point) : Type 0 where
   pub listed : Contains areas area
   pub has_point : HasPoint area p
 
--- each point of area that one of the edges has is left to no net, and each other point of the domain
+-- each point of area that one of the pieces has is left to no net, and each other point of the domain
 -- has its old label
-pub record IsBarred (domain area : Rect) (edges : List Rect) (old new : Point → Label) : Type 0 where
-  pub within : (p : Point) → HasPoint area p → IsInOneOf edges p → new p ≡ Many
-  pub elsewhere : (p : Point) → HasPoint domain p → (HasPoint area p → IsInOneOf edges p → ⊥) → new p ≡ old p
+pub record IsBarred (domain area : Rect) (pieces : List Rect) (old new : Point → Label) : Type 0 where
+  pub within : (p : Point) → HasPoint area p → IsInOneOf pieces p → new p ≡ Many
+  pub elsewhere : (p : Point) → HasPoint domain p → (HasPoint area p → IsInOneOf pieces p → ⊥) → new p ≡ old p
 
 -- each point of the piece in area is left to no net, and each other point of the domain has its old
 -- label

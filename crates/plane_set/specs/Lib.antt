@@ -3,4 +3,5 @@ pub mod Families
 pub mod Joins
 pub mod Places
 pub mod Relabelled
+pub mod Shutting
 pub mod Standing

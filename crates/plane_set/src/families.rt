@@ -5,16 +5,16 @@ ghost use Rattle.std.specs.Prelude.{◌≡◌, ◌<◌, ◌↔◌, length, IfSom
 ghost use Rattle.geo_rect.specs.declared.shapes.Point.{Point};
 ghost use Rattle.geo_rect.specs.Plane.{HasPoint};
 ghost use Rattle.board_model.specs.Known.{IsKnown};
-ghost use Rattle.board_model.specs.Labels.{Hits, wire_plane, via_plane};
-ghost use Rattle.board_model.specs.Rules.{IsMeasure};
+ghost use Rattle.board_model.specs.Labels.{Hits, Shuts, wire_plane, via_plane};
+ghost use Rattle.board_model.specs.Rules.{IsKeepout, IsMeasure};
 ghost use Rattle.plane_set.specs.Families.{rows_in, rule_in};
 
-use board_model::{Board, Shape};
+use board_model::{Board, Keepout, Shape};
 use geo_rect::{ClassId, KindId, LayerId, Rect};
-use grow_rules::{via_grow, wire_grow};
+use grow_rules::{via_grow, via_keep, wire_grow, wire_keep};
 
 /// The planes of wires, a row for each layer, or those of vias, a row for each kind.
-#[derive(Clone, Copy, Debug, PartialEq, Eq)]
+#[derive(Clone, Copy)]
 pub enum Family {
     Wires,
     Vias,
@@ -31,16 +31,16 @@ impl Family {
         }
     }
 
-    /// Half the width of the square round a point of the plane of class `c`, in micrometres.
-    pub fn half(self, board: &Board, row: u32, c: ClassId) -> i32
+    /// Half the width of the widest square round a point of the plane of class `c`, in micrometres.
+    pub fn widest(self, board: &Board, row: u32, c: ClassId) -> i32
         requires row { row < rows_in board.now.parts self }
         requires class { c.0 < length board.now.parts.classes }
-        ensures half { result ≡ (rule_in board.now.parts self row c).half }
+        ensures widest { result ≡ (rule_in board.now.parts self row c).widest }
         ensures measure { IsMeasure result }
     {
         match self {
             Family::Wires => board.rule(LayerId(row), c).half,
-            Family::Vias => board.pad(KindId(row), c),
+            Family::Vias => board.pad(KindId(row), c).max(board.inner(KindId(row), c)),
         }
     }
 
@@ -57,6 +57,22 @@ impl Family {
         match self {
             Family::Wires => wire_area(board, LayerId(row), c, s),
             Family::Vias => via_area(board, KindId(row), c, s),
+        }
+    }
+
+    /// The points of the plane of class `c` that the keep-out shuts; `None` where it counts not at all.
+    pub fn shut_area(self, board: &Board, row: u32, c: ClassId, keepout: &Keepout) -> Option<Rect>
+        requires row { row < rows_in board.now.parts self }
+        requires class { c.0 < length board.now.parts.classes }
+        requires known { IsKeepout board.now.parts keepout.now }
+        ensures some { IfSome result (λ r. (p : Point)
+            → HasPoint r p ↔ Shuts (rule_in board.now.parts self row c) p keepout.now) }
+        ensures none { IfNone result ((p : Point)
+            → Shuts (rule_in board.now.parts self row c) p keepout.now → ⊥) }
+    {
+        match self {
+            Family::Wires => wire_shut(board, LayerId(row), c, keepout),
+            Family::Vias => via_shut(board, KindId(row), c, keepout),
         }
     }
 }
@@ -92,4 +108,43 @@ fn via_area(board: &Board, k: KindId, c: ClassId, s: &Shape) -> Option<Rect>
         return None;
     }
     Some(via_grow(board, k, c, s))
+}
+
+fn wire_shut(board: &Board, l: LayerId, c: ClassId, keepout: &Keepout) -> Option<Rect>
+    requires class { c.0 < length board.now.parts.classes }
+    requires known { IsKeepout board.now.parts keepout.now }
+    ensures some { IfSome result (λ r. (p : Point)
+        → HasPoint r p ↔ Shuts (wire_plane board.now.parts l c) p keepout.now) }
+    ensures none { IfNone result ((p : Point)
+        → Shuts (wire_plane board.now.parts l c) p keepout.now → ⊥) }
+{
+    if !keepout.wires {
+        return None;
+    }
+    if keepout.layer.0 != l.0 {
+        return None;
+    }
+    Some(wire_keep(board, keepout.layer, c, keepout.area))
+}
+
+fn via_shut(board: &Board, k: KindId, c: ClassId, keepout: &Keepout) -> Option<Rect>
+    requires kind { k.0 < length board.now.parts.kinds }
+    requires class { c.0 < length board.now.parts.classes }
+    requires known { IsKeepout board.now.parts keepout.now }
+    ensures some { IfSome result (λ r. (p : Point)
+        → HasPoint r p ↔ Shuts (via_plane board.now.parts k c) p keepout.now) }
+    ensures none { IfNone result ((p : Point)
+        → Shuts (via_plane board.now.parts k c) p keepout.now → ⊥) }
+{
+    if keepout.wires {
+        return None;
+    }
+    let kind = board.kind(k);
+    if keepout.layer.0 < kind.first.0 {
+        return None;
+    }
+    if keepout.layer.0 > kind.last.0 {
+        return None;
+    }
+    Some(via_keep(board, k, c, keepout.layer, keepout.area))
 }

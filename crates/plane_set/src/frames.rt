@@ -9,14 +9,14 @@ ghost use Rattle.plane_set.specs.Families.{rows_in, rule_in};
 ghost use Rattle.plane_set.specs.Joins.{HasNewLabels, IsBarred, IsPieceBarred};
 
 use crate::families::Family;
+use crate::shuts::shut_areas;
 use board_model::Board;
 use geo_rect::{ClassId, Label, NoMemory, Rect, meet};
-use grow_rules::frame;
 use plane_core::Plane;
 use std::alloc::Global;
 
 /// The plane of class `c` in a row of the family, with no shape: the points whose squares leave the
-/// board are left to no net, and the others are free.
+/// board or are too close to a keep-out are left to no net, and the others are free.
 pub fn bare_plane<P: Plane>(
     alloc: Global,
     board: &Board,
@@ -41,8 +41,8 @@ fn board_area(board: &Board) -> Rect
 }
 
 /// Takes all shapes out of `area`, a part of the plane of class `c` in a row of the family: the
-/// points there whose squares leave the board are left to no net, and the others are free. After
-/// `NoMemory` the plane is gone.
+/// points there whose squares leave the board or are too close to a keep-out are left to no net, and
+/// the others are free. After `NoMemory` the plane is gone.
 pub fn clear_area<P: Plane>(
     alloc: Global,
     board: &Board,
@@ -60,23 +60,22 @@ pub fn clear_area<P: Plane>(
     ensures labels { IfOk result (λ new. HasNewLabels (P.region plane) area (label_among board.now.parts (rule_in board.now.parts family row c) []) (label_of (P.strips plane)) (label_of (P.strips new))) }
     ensures canonical { IfOk result (λ new. IsPlane (P.region new) (P.strips new)) }
 {
-    let half = family.half(board, row, c);
-    let edges = frame(board, half);
+    let shut = shut_areas(alloc, board, family, row, c)?;
     let freed = plane.paint(alloc, area, Label::Free)?;
-    bar(alloc, freed, area, &edges)
+    bar(alloc, freed, area, shut.as_slice())
 }
 
-/// Leaves each point of these edges that lies in `area`, a part of the domain, to no net.
-fn bar<P: Plane>(alloc: Global, plane: P, area: Rect, edges: &[Rect]) -> Result<P, NoMemory>
+/// Leaves each point of these pieces that lies in `area`, a part of the domain, to no net.
+fn bar<P: Plane>(alloc: Global, plane: P, area: Rect, pieces: &[Rect]) -> Result<P, NoMemory>
     requires { LiesIn area (P.region plane) }
     ensures region { IfOk result (λ new. P.region new ≡ P.region plane) }
-    ensures labels { IfOk result (λ new. IsBarred (P.region plane) area edges.now (label_of (P.strips plane)) (label_of (P.strips new))) }
+    ensures labels { IfOk result (λ new. IsBarred (P.region plane) area pieces.now (label_of (P.strips plane)) (label_of (P.strips new))) }
     ensures canonical { IfOk result (λ new. IsPlane (P.region new) (P.strips new)) }
 {
     let _domain = plane.domain();
     let mut barred = plane;
-    for edge in edges {
-        barred = bar_piece(alloc, barred, area, *edge)?;
+    for piece in pieces {
+        barred = bar_piece(alloc, barred, area, *piece)?;
     }
     Ok(barred)
 }

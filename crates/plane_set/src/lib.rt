@@ -13,6 +13,7 @@ mod laws;
 mod passing;
 mod rests;
 mod sets;
+mod shuts;
 #[cfg(test)]
 mod tests;
 

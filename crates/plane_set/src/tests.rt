@@ -5,7 +5,7 @@ ghost use Rattle.grow_rules.specs.Frames.{IsBoardPoint};
 ghost use Rattle.plane_set.specs.Standing.{HasPlanes};
 
 use crate::PlaneSet;
-use board_model::{Block, Board, BoardParts, Made, Pin, Rule, Shape, ViaKind, all_shapes};
+use board_model::{Block, Board, BoardParts, Keepout, Made, Pin, Rule, Shape, ViaKind, all_shapes};
 use flat_plane::FlatPlane;
 use geo_rect::{ClassId, KindId, Label, LayerId, NetId, NoMemory, Node, Point, Rect, Text};
 use plane_core::{Plane, Strips};
@@ -15,25 +15,31 @@ use std::test::Fail;
 
 const ONE: Label = Label::One(NetId(0));
 
-/// A kind of via from the first layer to the second.
-fn kind() -> ViaKind {
-    ViaKind {
-        first: LayerId(0),
-        last: LayerId(1),
-        charge: 5,
-    }
+/// A layer on which wires are 2 wide and keep 2 away from all else.
+fn add_layer(alloc: Global, parts: &mut BoardParts, name: &str) -> Result<(), NoMemory> {
+    parts.layers.push(Text::from_str(alloc, name)?)?;
+    parts.rules.push(Rule { half: 1, gap: 2 })?;
+    parts.gaps.push(2)
 }
 
-/// Two layers, one kind of via over both, one class and one net.
-fn add_layers(alloc: Global, parts: &mut BoardParts) -> Result<(), NoMemory> {
-    parts.layers.push(Text::from_str(alloc, "top")?)?;
-    parts.layers.push(Text::from_str(alloc, "bottom")?)?;
+/// A kind of via from the first layer to the last, with these half widths of its pads, and one class
+/// and one net.
+fn add_kind(
+    alloc: Global,
+    parts: &mut BoardParts,
+    last: u32,
+    pad: i32,
+    inner: i32,
+) -> Result<(), NoMemory> {
     parts.classes.push(Text::from_str(alloc, "thin")?)?;
-    parts.rules.push(Rule { half: 1, gap: 2 })?;
-    parts.rules.push(Rule { half: 1, gap: 2 })?;
     parts.kind_names.push(Text::from_str(alloc, "hole")?)?;
-    parts.kinds.push(kind())?;
-    parts.pads.push(2)?;
+    parts.kinds.push(ViaKind {
+        first: LayerId(0),
+        last: LayerId(last),
+        charge: 5,
+    })?;
+    parts.pads.push(pad)?;
+    parts.inners.push(inner)?;
     parts.net_names.push(Text::from_str(alloc, "a")?)?;
     parts.net_classes.push(ClassId(0))
 }
@@ -44,7 +50,9 @@ fn fill(
     blocks: &[Block],
     pins: &[Pin],
 ) -> Result<(), NoMemory> {
-    add_layers(alloc, parts)?;
+    add_layer(alloc, parts, "top")?;
+    add_layer(alloc, parts, "bottom")?;
+    add_kind(alloc, parts, 1, 2, 2)?;
     for block in blocks {
         parts.blocks.push(*block)?;
     }
@@ -313,5 +321,73 @@ fn check_wall<P: Plane>(rt: &impl Abort, alloc: Global) -> Result<(), NoMemory> 
 #[test]
 fn a_net_passes_outside_the_gap_of_a_wall(rt: HostRuntime) -> Result<(), Fail> {
     check_wall::<FlatPlane>(&rt, rt.alloc())?;
+    Ok(())
+}
+
+fn fill_three(alloc: Global, parts: &mut BoardParts, keepout: Keepout) -> Result<(), NoMemory> {
+    add_layer(alloc, parts, "top")?;
+    add_layer(alloc, parts, "middle")?;
+    add_layer(alloc, parts, "bottom")?;
+    add_kind(alloc, parts, 2, 3, 1)?;
+    parts.keepouts.push(keepout)
+}
+
+/// A board of three layers, with a keep-out and one kind of via over all layers, whose pad is smaller on
+/// the middle one.
+fn three_layers(alloc: Global, keepout: Keepout) -> Result<BoardParts, NoMemory> {
+    let mut parts = BoardParts::new(alloc, "three", 40, 20)?;
+    fill_three(alloc, &mut parts, keepout)?;
+    Ok(parts)
+}
+
+/// The labels of a point in the planes of wires on the second layer and of vias.
+fn both_labels<P: Plane>(rt: &impl Abort, board: &Board, set: &PlaneSet<P>, at: Point) -> [Label; 2]
+    requires { HasPlanes board.now.parts set.now }
+{
+    assert!(rt; board.layers() > 1);
+    assert!(rt; board.kinds() > 0);
+    assert!(rt; board.classes() > 0);
+    let wires = label_at(rt, set.wire(LayerId(1), ClassId(0)), at);
+    let vias = label_at(rt, set.via(KindId(0), ClassId(0)), at);
+    [wires, vias]
+}
+
+/// The labels of a point of the board with the wall as a keep-out.
+fn labels_beside<P: Plane>(
+    rt: &impl Abort,
+    alloc: Global,
+    wires: bool,
+    layer: u32,
+    at: Point,
+) -> Result<[Label; 2], NoMemory> {
+    let keepout = Keepout {
+        wires,
+        layer: LayerId(layer),
+        area: wall(),
+    };
+    let board = board_of(rt, alloc, three_layers(alloc, keepout)?)?;
+    let set: PlaneSet<P> = PlaneSet::build(alloc, &board)?;
+    Ok(both_labels(rt, &board, &set, at))
+}
+
+/// A wire reaches 1 round its middle, a via 3 on the outer layers and 1 on the middle one.
+#[test]
+fn keepouts_shut_wires_or_vias(rt: HostRuntime) -> Result<(), Fail> {
+    let free = Label::Free;
+    let many = Label::Many;
+    for (wires, layer, x, labels) in [
+        (true, 1, 16, [free, free]),
+        (true, 1, 17, [many, free]),
+        (true, 0, 20, [free, free]),
+        (false, 1, 16, [free, free]),
+        (false, 1, 17, [free, many]),
+        (false, 0, 14, [free, free]),
+        (false, 0, 15, [free, many]),
+        (false, 0, 2, [free, many]),
+    ] {
+        let at = Point { x, y: 5 };
+        let found = labels_beside::<FlatPlane>(&rt, rt.alloc(), wires, layer, at)?;
+        assert_eq!(rt; found, labels, "at {x}, layer {layer}");
+    }
     Ok(())
 }

@@ -13,12 +13,11 @@ use Rattle.board_model.specs.declared.made.Leg.TheVariants.{Wire, Via}
 use Rattle.board_model.specs.declared.parts.BoardParts.{BoardParts}
 use Rattle.board_model.specs.declared.shapes.Shape.{Shape}
 use Rattle.board_model.specs.Known.{IsKnown}
-use Rattle.geo_rect.specs.Plane.{square}
-use Rattle.board_model.specs.Lookup.{rule_of, kind_of, pad_of, class_of, layers_from}
+use Rattle.board_model.specs.Lookup.{rule_of, kind_of, class_of, layers_from}
 use Rattle.board_model.specs.Made.{conns_of, with_conn, without_conns}
 use Rattle.board_model.specs.Rules.{IsBoard}
 use Rattle.board_model.specs.Segments.{segment}
-use Rattle.board_model.specs.Shapes.{board_shapes, conn_shapes, legs_shapes, leg_shapes, state_shapes, net_shape, place_of, end_of}
+use Rattle.board_model.specs.Shapes.{board_shapes, conn_shapes, legs_shapes, leg_shapes, state_shapes, net_shape, via_shape, place_of, end_of}
 use Rattle.board_model.specs.WellFormed.{IsWellFormed, AreWellFormed}
 use Rattle.board_model.proofs.MadeShapes.{conn_known}
 use Rattle.board_model.proofs.StateShapes.{All-flat_map, only_the_board}
@@ -118,8 +117,9 @@ module _ (b : BoardParts) (n : NetId) where
       let area = segment (place_of v) (place_of w) (rule_of b w.layer (class_of b n)).half in
       All-cons HasOwner (net_shape n area w.layer) [] refl (All-nil HasOwner)
   leg_owned v (Via k w) =
-      let area = square (place_of w) (pad_of b k (class_of b n)) in
-      All-map HasOwner (net_shape n area) (layers_from (kind_of b k).first (kind_of b k).last) (all_so (λ l. HasOwner (net_shape n area l)) (λ l. refl) (layers_from (kind_of b k).first (kind_of b k).last))
+      let pad = via_shape b n k (place_of w) in
+      let layers = layers_from (kind_of b k).first (kind_of b k).last in
+      All-map HasOwner pad layers (all_so (λ l. HasOwner (pad l)) (λ l. refl) layers)
 
   legs_owned : (v : Node) (legs : List Leg) → All HasOwner (legs_shapes b n v legs)
   legs_owned v [] = All-nil HasOwner

@@ -82,9 +82,9 @@ module _ (b : BoardParts) (board : IsBoard b) where
       All-cons (IsBoardBox b) (spot_on area w.layer) [] (record { layer = k.layer; area = line_on v w h k }) (All-nil (IsBoardBox b))
   leg_on v (Via k w) h i s =
       let kind = kind_is b board k s.form.kind in
-      let next = kind.neighbours in
+      let order = kind.order in
       boxes_on (lone (place_of w)) (layers_from (kind_of b k).first (kind_of b k).last) (node_on w i)
-      (layers_below (length b.layers) (kind_of b k).first (kind_of b k).last (omega (arith, next)) kind.known)
+      (layers_below (length b.layers) (kind_of b k).first (kind_of b k).last (omega (arith, order)) kind.known)
 
   legs_on : (v : Node) (legs : List Leg) → IsBoardNode b v → All (λ (leg : Leg). IsBoardNode b (end_of leg)) legs → AreSteps b v legs → All (IsBoardBox b) (legs_boxes b v legs)
   legs_on v [] h k s = All-nil (IsBoardBox b)

@@ -11,7 +11,7 @@ use Rattle.board_model.specs.Shapes.{made_shapes, state_shapes}
 use Rattle.board_model.specs.WellFormed.{IsWellFormed, AreWellFormed}
 use Rattle.board_model.proofs.StateShapes.{none_made}
 use Rattle.board_model.proofs.WellFormed.{none_well_formed}
-use Rattle.route_law.specs.Kept.{KeepsRules, IsKept, IsState}
+use Rattle.route_law.specs.Kept.{KeepsRules, KeepsOff, IsKept, IsState}
 use Rattle.route_law.specs.Regular.{IsRegularConn}
 use Rattle.route_law.specs.Routing.{conns_needed}
 use Rattle.route_law.specs.Steps.{nothing_made}
@@ -22,6 +22,7 @@ no_conns b = All-replicate (λ (conns : List Conn). conns ≡ []) (length b.net_
 nothing-kept : (b : BoardParts) → IsKept b (nothing_made b)
 nothing-kept b = record {
   rules = λ s k. absurd (omega (arith, (subst (λ (shapes : List Shape). Contains shapes s) (none_made b 0 (nothing_made b) (no_conns b)) k).1));
+  keepouts = λ n l. subst (All (KeepsOff b n)) (sym (get_or-replicate (length b.net_names) n.0 [] [] l)) (All-nil (KeepsOff b n));
   few = λ n l. subst (λ (conns : List Conn). length conns ≤ conns_needed b n) (sym (get_or-replicate (length b.net_names) n.0 [] [] l)) (omega arith);
 }
 

@@ -28,7 +28,7 @@ middle_on_board w h half p s =
     record { left = omega (arith, ints); below = omega (arith, ints); right = omega (arith, ints); above = omega (arith, ints) }
 
 admitted_on_board : (b : BoardParts) (r : PlaneRule) (shapes : List Shape) (n : NetId) (p : Point) → Admits (label_among b r shapes p) n → IsOnBoard b.width b.height (lone p)
-admitted_on_board b r shapes n p a = middle_on_board b.width b.height r.half p ((admits_is_left b r p shapes n).0 a).fits
+admitted_on_board b r shapes n p a = middle_on_board b.width b.height r.widest p ((admits_is_left b r p shapes n).0 a).allowed.fits
 
 same_admits : (x y : Label) (m n : NetId) → x ≡ y → m ≡ n → Admits x m → Admits y n
 same_admits x y m n e f a =

@@ -24,7 +24,7 @@ pub struct Entry {
 
 /// A certificate of what the cheapest walk costs, in micrometres of wire; with `None`, that there is
 /// no walk.
-#[derive(Debug, Drop)]
+#[derive(Drop)]
 pub struct Cert {
     pub bound: Option<u128>,
     pub entries: List<Entry>,

@@ -4,7 +4,7 @@ use geo_rect::{ClassId, LayerId, List, NetId};
 use plane_core::Strip;
 
 /// A connection of a net that a command made.
-#[derive(Debug, Drop)]
+#[derive(Drop)]
 pub struct Made1 {
     /// Its number among the connections of the net, from 1.
     pub number: u64,
@@ -14,7 +14,7 @@ pub struct Made1 {
 }
 
 /// A connection of a net that cannot be made.
-#[derive(Debug, Drop)]
+#[derive(Drop)]
 pub struct Fail {
     /// The number that it would have among the connections of the net, from 1.
     pub number: u64,
@@ -23,7 +23,7 @@ pub struct Fail {
 }
 
 /// What came of making the connections that a net lacked.
-#[derive(Debug, Drop)]
+#[derive(Drop)]
 pub struct Routed {
     pub net: NetId,
     /// How many connections the net lacked.
@@ -35,7 +35,7 @@ pub struct Routed {
 }
 
 /// A connection of a net as `show` lists it.
-#[derive(Debug, Drop)]
+#[derive(Drop)]
 pub struct Item {
     /// Its number among the connections of the net, from 1.
     pub number: u64,
@@ -43,7 +43,7 @@ pub struct Item {
 }
 
 /// The reply to a command.
-#[derive(Debug, Drop)]
+#[derive(Drop)]
 pub enum Reply {
     Route(Routed),
     /// What came of each net, in the order of the text.

@@ -15,6 +15,7 @@ fn add_nets(alloc: Global, parts: &mut BoardParts) -> Result<(), NoMemory> {
     parts.layers.push(Text::from_str(alloc, "top")?)?;
     parts.classes.push(Text::from_str(alloc, "thin")?)?;
     parts.rules.push(Rule { half: 1, gap: 2 })?;
+    parts.gaps.push(2)?;
     parts.net_names.push(Text::from_str(alloc, "a")?)?;
     parts.net_names.push(Text::from_str(alloc, "b")?)?;
     parts.net_classes.push(ClassId(0))?;
@@ -148,14 +149,18 @@ fn wire_from_the_edge(alloc: Global, board: &Board) -> Result<Made, NoMemory>
     Ok(made)
 }
 
-#[test]
-fn a_wire_leaves_the_board(rt: HostRuntime) -> Result<(), Fail> {
-    let alloc = rt.alloc();
+/// The violations of the small board with that connection alone.
+fn found_at_the_edge(rt: &impl Abort, alloc: Global) -> Result<List<Violation>, NoMemory> {
     let parts = small_board(alloc, &[], &[])?;
-    let board = build(&rt, alloc, parts)?;
+    let board = build(rt, alloc, parts)?;
     assert_eq!(rt; board.nets(), 2);
     let made = wire_from_the_edge(alloc, &board)?;
-    let list = violations(alloc, &board, &made)?;
+    violations(alloc, &board, &made)
+}
+
+#[test]
+fn a_wire_leaves_the_board(rt: HostRuntime) -> Result<(), Fail> {
+    let list = found_at_the_edge(&rt, rt.alloc())?;
     let wire = Owned {
         owner: Some(NetId(0)),
         area: Rect::new(-1, 4, 6, 6),

@@ -80,7 +80,7 @@ module _ (b : BoardParts) (board : IsBoard b) (shapes : List Shape) (n : NetId) 
       All-cons (IsBoardBox b) box [] (record { layer = to.layer; area = segment_on_board b.width b.height (pos 0) (place_of v) (place_of w) from.area to.area }) (All-nil (IsBoardBox b))
   leg_within v (Via kind w) step h k =
       let is = kind_is b board kind step.form.kind in
-      let next = is.neighbours in
+      let order = is.order in
       let to = node_within w k in
       spots_on b (kind_of b kind).first (kind_of b kind).last (spot_on (lone (place_of w)) w.layer) (omega arith) is.known to.area
 

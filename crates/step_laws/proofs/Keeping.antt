@@ -13,10 +13,12 @@ use Rattle.board_model.specs.declared.made.Leg.TheVariants.{Wire, Via}
 use Rattle.board_model.specs.declared.parts.BoardParts.{BoardParts}
 use Rattle.board_model.specs.declared.shapes.Shape.{Shape}
 use Rattle.board_model.specs.Commands.{IsCommandOf}
+use Rattle.board_model.specs.Known.{IsKnown}
 use Rattle.board_model.specs.Made.{conns_of, with_conn, without_conns}
 use Rattle.board_model.specs.Rules.{IsBoard}
 use Rattle.board_model.specs.Shapes.{end_of, leg_shapes, legs_shapes, conn_shapes, made_shapes, board_shapes, state_shapes}
 use Rattle.board_model.specs.WellFormed.{IsWellFormed}
+use Rattle.board_model.proofs.MadeShapes.{conn_known, state_known}
 use Rattle.board_model.proofs.WellFormed.{with_conn_well_formed}
 use Rattle.route_law.specs.declared.replies.Fail.{Fail}
 use Rattle.route_law.specs.declared.replies.Made1.{Made1}
@@ -26,12 +28,12 @@ use Rattle.route_law.specs.declared.replies.Routed.{Routed}
 use Rattle.route_law.specs.Boards.{IsGroundOf}
 use Rattle.route_law.specs.Ground.{Ground}
 use Rattle.route_law.specs.Joins.{IsConnection}
-use Rattle.route_law.specs.Kept.{KeepsRules, IsKept, IsState}
+use Rattle.route_law.specs.Kept.{KeepsRules, KeepsOff, IsKept, IsState}
 use Rattle.route_law.specs.Regular.{IsRegularConn}
 use Rattle.route_law.specs.Routing.{IsNextConnection, AreMadeInTurn, IsDoneOrStuck, IsRouted, AreRoutedFrom, conns_needed}
 use Rattle.route_law.specs.Steps.{IsStep, IsAnswer, IsRunFrom, command_of}
 use Rattle.step_laws.proofs.Corners.{conn_regular}
-use Rattle.step_laws.proofs.Legs.{legs_clear, legs_keep}
+use Rattle.step_laws.proofs.Legs.{legs_clear, legs_keep, legs_keep_off}
 use Rattle.step_laws.proofs.Pairs.{AreClose, close_back}
 use Rattle.step_laws.proofs.Shapes.{shapes_with_conn, shapes_without_conns, made_with_conn, made_without_conns}
 
@@ -45,6 +47,17 @@ legs_owned b n v (leg ∷ legs) =
     of_leg (Wire w) = All-cons (λ (s : Shape). s.owner ≡ Some n) _ [] refl (All-nil (λ (s : Shape). s.owner ≡ Some n))
     of_leg (Via k w) = All-map (λ (s : Shape). s.owner ≡ Some n) _ _ (λ i d l. refl)
 
+-- nets of one number are one
+same_net : (k n : NetId) → k.0 ≡ n.0 → n ≡ k
+same_net k n e = ap (λ (z : ℕ). let q : NetId = record { 0 = z } in q) (sym e)
+
+-- what a connection keeps that is made next to those of a state: its shapes are known and keep the rules, and
+-- it keeps off the keep-outs
+record KeepsAll (b : BoardParts) (shapes : List Shape) (n : NetId) (c : Conn) : Type 0 where
+  known : All (IsKnown b) (conn_shapes b n c)
+  rules : All (KeepsRules b shapes) (conn_shapes b n c)
+  keepouts : KeepsOff b n c
+
 module _ (b : BoardParts) (lists : List (List Conn)) (n : NetId) (c : Conn) (l : n.0 < length lists) where
   -- the connections of each net after one more of the net
   pub conns-with_same : conns_of (with_conn lists n c) n ≡ conns_of lists n ++ c ∷ []
@@ -53,16 +66,25 @@ module _ (b : BoardParts) (lists : List (List Conn)) (n : NetId) (c : Conn) (l :
   pub length-with_conn : length (conns_of (with_conn lists n c) n) ≡ length (conns_of lists n) + 1
   length-with_conn = ap length conns-with_same ∙ length-append (conns_of lists n) (c ∷ [])
 
-  -- where the rules are kept, and the new shapes keep them, they stay kept
-  module _ (kept : IsKept b lists) (new : (s : Shape) → Contains (conn_shapes b n c) s → KeepsRules b (state_shapes b lists) s) where
+  -- where the rules are kept, and the new connection keeps them, they stay kept
+  module _ (board : IsBoard b) (known : All (IsKnown b) (state_shapes b lists)) (kept : IsKept b lists) (keeps : KeepsAll b (state_shapes b lists) n c) where
     abbrev after : List (List Conn)
     after = with_conn lists n c
 
     owned_by : (s : Shape) → Contains (conn_shapes b n c) s → s.owner ≡ Some n
     owned_by s m = All-contains (λ (x : Shape). x.owner ≡ Some n) (conn_shapes b n c) s (legs_owned b n c.start c.legs) m
 
+    new : (s : Shape) → Contains (conn_shapes b n c) s → KeepsRules b (state_shapes b lists) s
+    new s m = All-contains (KeepsRules b (state_shapes b lists)) (conn_shapes b n c) s keeps.rules m
+
+    old_known : (s : Shape) → Contains (state_shapes b lists) s → IsKnown b s
+    old_known s m = All-contains (IsKnown b) (state_shapes b lists) s known m
+
+    new_known : (s : Shape) → Contains (conn_shapes b n c) s → IsKnown b s
+    new_known s m = All-contains (IsKnown b) (conn_shapes b n c) s keeps.known m
+
     old_and_new : (s t : Shape) → Contains (state_shapes b lists) s → Contains (conn_shapes b n c) t → AreClose b s t → ⊥
-    old_and_new s t old m h = let k = close_back b s t h in (new t m).gaps s old k.layer k.owner k.close
+    old_and_new s t old m h = let k = close_back b board s t (old_known s old) (new_known t m) h in (new t m).gaps s old k.layer k.owner k.close
 
     new_and_new : (s t : Shape) → Contains (conn_shapes b n c) s → Contains (conn_shapes b n c) t → AreClose b s t → ⊥
     new_and_new s t m k h = h.owner (owned_by t k ∙ sym (owned_by s m))
@@ -81,35 +103,50 @@ module _ (b : BoardParts) (lists : List (List Conn)) (n : NetId) (c : Conn) (l :
           gaps = λ t k layer owner close. gaps_kept s t m' ((shapes_with_conn b lists n c t l).0 k) (record { layer = layer; owner = owner; close = close });
         }
 
+    other_conns : (k : NetId) → (k.0 ≡ n.0 → ⊥) → conns_of after k ≡ conns_of lists k
+    other_conns k e = get_or-set_other lists n.0 k.0 (conns_of lists n ++ c ∷ []) [] e
+
+    keepouts_kept : (k : NetId) → k.0 < length b.net_names → All (KeepsOff b k) (conns_of after k)
+    keepouts_kept k i = by (cases_eq k.0 n.0)
+      where
+        by : (k.0 ≡ n.0) ⊎ (k.0 ≡ n.0 → ⊥) → All (KeepsOff b k) (conns_of after k)
+        by (inl e) =
+            let own : All (KeepsOff b n) (conns_of lists n) = kept.keepouts n (omega (arith, i, e)) in
+            let here : All (KeepsOff b n) (conns_of after n) = subst (All (KeepsOff b n)) (sym conns-with_same) (All-push (KeepsOff b n) (conns_of lists n) c own keeps.keepouts) in
+            subst (λ (z : NetId). All (KeepsOff b z) (conns_of after z)) (same_net k n e) here
+        by (inr e) = subst (All (KeepsOff b k)) (sym (other_conns k e)) (kept.keepouts k i)
+
     few_kept : length (conns_of lists n) < conns_needed b n → (k : NetId) → k.0 < length b.net_names → length (conns_of after k) ≤ conns_needed b k
     few_kept few k i = by (cases_eq k.0 n.0)
       where
-        net_is : k.0 ≡ n.0 → n ≡ k
-        net_is e = ap (λ (z : ℕ). let q : NetId = record { 0 = z } in q) (sym e)
-
         by : (k.0 ≡ n.0) ⊎ (k.0 ≡ n.0 → ⊥) → length (conns_of after k) ≤ conns_needed b k
         by (inl e) =
             let here : length (conns_of after n) ≤ conns_needed b n = omega (arith, length-with_conn, few) in
-            subst (λ (z : NetId). length (conns_of after z) ≤ conns_needed b z) (net_is e) here
+            subst (λ (z : NetId). length (conns_of after z) ≤ conns_needed b z) (same_net k n e) here
         by (inr e) =
-            let same : length (conns_of after k) ≡ length (conns_of lists k) = ap length (get_or-set_other lists n.0 k.0 (conns_of lists n ++ c ∷ []) [] e) in
+            let same : length (conns_of after k) ≡ length (conns_of lists k) = ap length (other_conns k e) in
             omega (arith, same, kept.few k i)
 
-    pub conn_kept : length (conns_of lists n) < conns_needed b n → IsKept b after
-    conn_kept few = record { rules = rules_kept; few = few_kept few }
+    conn_kept : length (conns_of lists n) < conns_needed b n → IsKept b after
+    conn_kept few = record { rules = rules_kept; keepouts = keepouts_kept; few = few_kept few }
 
 -- a walk that joins the net's next pin to what it has is a connection by which the rules stay kept
 pub joined_state : (b : BoardParts) (lists : List (List Conn)) (n : NetId) (c : Conn) (g : Ground) (sources targets : List Spot) → IsBoard b → IsState b lists → n.0 < length b.net_names → length (conns_of lists n) < conns_needed b n → IsGroundOf b (state_shapes b lists) n g → IsConnection b g c sources targets → IsState b (with_conn lists n c)
 joined_state b lists n c g sources targets h s l few of joined =
     let i : n.0 < length lists = omega (arith, l, s.nets) in
     let clear = legs_clear b g c.start c.legs joined.well_formed.steps joined.walk.walk in
-    let keep : All (KeepsRules b (state_shapes b lists)) (conn_shapes b n c) = legs_keep b (state_shapes b lists) n g h of c.start c.legs clear in
+    let known : All (IsKnown b) (state_shapes b lists) = state_known b h lists s.nets s.well_formed in
+    let keeps : KeepsAll b (state_shapes b lists) n c = record {
+      known = conn_known b h n l c joined.well_formed;
+      rules = legs_keep b (state_shapes b lists) n g h l of c.start c.legs clear;
+      keepouts = legs_keep_off b (state_shapes b lists) n g h l of c.start c.legs clear;
+    } in
     let regular : IsRegularConn b c = conn_regular b (state_shapes b lists) n g h of c joined.well_formed joined.walk.walk in
     record {
       nets = length-set lists n.0 (conns_of lists n ++ c ∷ []) ∙ s.nets;
       well_formed = with_conn_well_formed b lists n c i s.well_formed joined.well_formed;
       regular = All-set (All (IsRegularConn b)) lists n.0 _ (All-push (IsRegularConn b) (conns_of lists n) c (All-get_or (All (IsRegularConn b)) lists n.0 [] i s.regular) regular) s.regular;
-      kept = conn_kept b lists n c i s.kept (λ x k. All-contains (KeepsRules b (state_shapes b lists)) (conn_shapes b n c) x keep k) few;
+      kept = conn_kept b lists n c i h known s.kept keeps few;
     }
 
 pub next_state : (b : BoardParts) (lists : List (List Conn)) (n : NetId) (m : Made1) → IsBoard b → IsState b lists → n.0 < length b.net_names → length (conns_of lists n) < conns_needed b n → IsNextConnection b lists n m → IsState b (with_conn lists n m.conn)
@@ -124,20 +161,27 @@ module _ (b : BoardParts) (lists : List (List Conn)) (n : NetId) (l : n.0 < leng
       let k : KeepsRules b (state_shapes b lists) s = kept.rules s ((made_without_conns b lists n s l).1 (inl m)) in
       record { outline = k.outline; gaps = λ t there. k.gaps t ((shapes_without_conns b lists n t l).1 (inl there)) }
 
+  -- the connections of a net are those that it had, or none
+  conns_stay : (k : NetId) → (conns_of cleared k ≡ []) ⊎ (conns_of cleared k ≡ conns_of lists k)
+  conns_stay k = elim (cases_eq k.0 n.0) [
+    | inl e ↦ inl (ap (λ (z : ℕ). get_or cleared z []) e ∙ get_or-set_same lists n.0 [] [] l)
+    | inr e ↦ inr (get_or-set_other lists n.0 k.0 [] [] e)
+  ]
+
+  keepouts_stay : (k : NetId) → k.0 < length b.net_names → All (KeepsOff b k) (conns_of cleared k)
+  keepouts_stay k i = elim (conns_stay k) [
+    | inl e ↦ subst (All (KeepsOff b k)) (sym e) (All-nil (KeepsOff b k))
+    | inr e ↦ subst (All (KeepsOff b k)) (sym e) (kept.keepouts k i)
+  ]
+
   few_stay : (k : NetId) → k.0 < length b.net_names → length (conns_of cleared k) ≤ conns_needed b k
-  few_stay k i = by (cases_eq k.0 n.0)
-    where
-      by : (k.0 ≡ n.0) ⊎ (k.0 ≡ n.0 → ⊥) → length (conns_of cleared k) ≤ conns_needed b k
-      by (inl e) =
-          let none : length (get_or cleared n.0 []) ≡ 0 = ap length (get_or-set_same lists n.0 [] [] l) in
-          let here : length (get_or cleared k.0 []) ≡ length (get_or cleared n.0 []) = ap (λ (z : ℕ). length (get_or cleared z [])) e in
-          omega (arith, none, here)
-      by (inr e) =
-          let same : length (conns_of cleared k) ≡ length (conns_of lists k) = ap length (get_or-set_other lists n.0 k.0 [] [] e) in
-          omega (arith, same, kept.few k i)
+  few_stay k i = elim (conns_stay k) [
+    | inl e ↦ subst (λ (cs : List Conn). length cs ≤ conns_needed b k) (sym e) (omega arith)
+    | inr e ↦ subst (λ (cs : List Conn). length cs ≤ conns_needed b k) (sym e) (kept.few k i)
+  ]
 
   pub removed_kept : IsKept b cleared
-  removed_kept = record { rules = rules_stay; few = few_stay }
+  removed_kept = record { rules = rules_stay; keepouts = keepouts_stay; few = few_stay }
 
 pub removed_state : (b : BoardParts) (lists : List (List Conn)) (n : NetId) → IsBoard b → IsState b lists → n.0 < length b.net_names → IsState b (without_conns lists n)
 removed_state b lists n h s l =

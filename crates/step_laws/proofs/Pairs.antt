@@ -1,10 +1,11 @@
 -- Two shapes that are too close, the one and the other way round.
 use Rattle.std.proofs.Common.{ℤ, ◌≡◌, ◌≢◌, sym, subst}
 use Rattle.geo_rect.specs.declared.ids.LayerId.{LayerId}
-use Rattle.geo_rect.specs.declared.shapes.Rect.{Rect}
 use Rattle.geo_rect.specs.Plane.{IsTooClose}
 use Rattle.board_model.specs.declared.parts.BoardParts.{BoardParts}
 use Rattle.board_model.specs.declared.shapes.Shape.{Shape}
+use Rattle.board_model.specs.Known.{IsKnown}
+use Rattle.board_model.specs.Rules.{IsBoard}
 use Rattle.board_model.specs.Spacing.{gap_between}
 use Rattle.board_model.proofs.OwnersGap.{gap_between-sym}
 use Rattle.geo_rect.proofs.Closeness.{too_close-sym}
@@ -15,10 +16,10 @@ pub record AreClose (b : BoardParts) (s t : Shape) : Type 0 where
   pub owner : t.owner ≢ s.owner
   pub close : IsTooClose s.area t.area (gap_between b s.layer s.owner t.owner)
 
-pub close_back : (b : BoardParts) (s t : Shape) → AreClose b s t → AreClose b t s
-close_back b s t h =
+pub close_back : (b : BoardParts) → IsBoard b → (s t : Shape) → IsKnown b s → IsKnown b t → AreClose b s t → AreClose b t s
+close_back b board s t k m h =
     let back : IsTooClose t.area s.area (gap_between b s.layer s.owner t.owner) = too_close-sym s.area t.area _ h.close in
-    let turned : IsTooClose t.area s.area (gap_between b s.layer t.owner s.owner) = subst (λ (z : ℤ). IsTooClose t.area s.area z) (gap_between-sym b s.layer s.owner t.owner) back in
+    let turned : IsTooClose t.area s.area (gap_between b s.layer t.owner s.owner) = subst (λ (z : ℤ). IsTooClose t.area s.area z) (gap_between-sym b board s.layer k.layer s.owner t.owner k.owner m.owner) back in
     record {
       layer = sym h.layer;
       owner = λ e. h.owner (sym e);

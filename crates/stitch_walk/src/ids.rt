@@ -7,7 +7,7 @@ use std::marker::Model;
 use tile_store::TileId;
 
 /// A list of numbers of tiles, of which the first eight take no memory of their own.
-#[derive(Debug, Drop)]
+#[derive(Drop)]
 pub struct Ids {
     pub items: SmallVec<TileId, 8>,
 }

@@ -13,7 +13,7 @@ use Rattle.strip_moves.specs.Listed.{HasArrival, IsMoveFrom}
 use Rattle.strip_moves.specs.Listed.IsMoveFrom.{by_edge, by_via}
 use Rattle.strip_moves.proofs.Gains.{arrival_kept}
 
-last_or_before : (i k : ℕ) → i < k + 1 → (i < k) ⊎ (i ≡ k)
+pub last_or_before : (i k : ℕ) → i < k + 1 → (i < k) ⊎ (i ≡ k)
 last_or_before i k h =
     elim (cases_order i k) [
       | inl same ↦ inr same

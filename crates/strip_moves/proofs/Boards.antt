@@ -21,11 +21,11 @@ first r = record { x = r.x0; y = r.y0 }
 pub has_first : (r : Rect) → HasPoint r (first r)
 has_first r = record { across = low_in (columns r); up = low_in (rows r) }
 
-near : (x y : ℤ) → pos 0 ≤ℤ x → x ≤ℤ pos (2 ^ 20) → pos 0 ≤ℤ y → y ≤ℤ pos (2 ^ 20) → between x y ≤ 2 ^ 20
+near : (x y : ℤ) → pos 0 ≤ℤ x → x ≤ℤ pos (2 ^ 23) → pos 0 ≤ℤ y → y ≤ℤ pos (2 ^ 23) → between x y ≤ 2 ^ 23
 near x y a b c d = omega (arith, ints)
 
 -- the distance of two rectangles of a board is short
-pub short_way : (a b : Rect) (n : ℕ) → IsOnLargestBoard a → IsOnLargestBoard b → IsDistance a b n → n ≤ 2 ^ 21
+pub short_way : (a b : Rect) (n : ℕ) → IsOnLargestBoard a → IsOnLargestBoard b → IsDistance a b n → n ≤ 2 ^ 24
 short_way a b n h k d =
     let across = near a.x0 b.x0 h.left (omega (arith, ints, h.right, a.x_ordered)) k.left (omega (arith, ints, k.right, b.x_ordered)) in
     let up = near a.y0 b.y0 h.below (omega (arith, ints, h.above, a.y_ordered)) k.below (omega (arith, ints, k.above, b.y_ordered)) in

@@ -1,53 +1,58 @@
--- The jumps to the other layer of a kind are the moves by vias of the kind.
-use Rattle.std.proofs.Common.{ℕ, ◌≡◌, ◌+◌, ◌↔◌, refl, sym, ◌∙◌, ap, subst, List, Contains}
+-- The jumps to a layer that a kind joins with the old one are the moves to it by vias of the kind.
+use Rattle.std.proofs.Common.{ℕ, ◌≡◌, ◌+◌, refl, sym, ◌∙◌, ap, subst, List, Contains}
 use Rattle.geo_rect.specs.declared.ids.KindId.{KindId}
 use Rattle.geo_rect.specs.declared.ids.LayerId.{LayerId}
 use Rattle.geo_rect.specs.declared.ids.NetId.{NetId}
 use Rattle.board_model.specs.Labels.{Admits}
 use Rattle.plane_core.specs.declared.strips.Strip.{Strip}
 use Rattle.route_law.specs.Ground.{Ground, HasLayer, HasKind, IsPassableStrip, IsWireStrip}
-use Rattle.route_law.specs.Moves.{Arrival, arrival_of, IsViaMove}
+use Rattle.route_law.specs.Moves.{Arrival, arrival_of}
 use Rattle.strip_moves.specs.declared.departures.Departure.{Departure}
-use Rattle.strip_moves.specs.Spans.{IsOtherLayer}
+use Rattle.strip_moves.specs.Spans.{IsOtherLayer, IsViaMoveTo}
 use Rattle.strip_moves.specs.Ways.{IsJump}
 
-pub no_jump : (g : Ground) (k : KindId) (a b : Arrival) → ((m : LayerId) → IsOtherLayer (g.kind k) a.layer m → ⊥) → IsViaMove g k a b → ⊥
-no_jump g k a b n h = n b.layer (record { from_span = h.from_span; to_span = h.to_span; other = h.other_layer })
+pub no_jump : (g : Ground) (k : KindId) (a : Arrival) (l : LayerId) → (IsOtherLayer (g.kind k) a.layer l → ⊥) → (b : Arrival) → IsViaMoveTo g k a l b → ⊥
+no_jump g k a l n b h =
+    let other : IsOtherLayer (g.kind k) a.layer b.layer = record { from_span = h.move.from_span; to_span = h.move.to_span; other = h.move.other_layer } in
+    n (subst (IsOtherLayer (g.kind k) a.layer) h.to_layer other)
 
 module _ (g : Ground) (k : KindId) (d : Departure) (vias strips : List Strip) (of_kind : HasKind g k) (on_layer : HasLayer g d.layer)
     (is_vias : vias ≡ g.via_strips k) (is_strips : strips ≡ g.wire_strips d.layer) (net : d.net ≡ g.net) (charge : d.charge ≡ (g.kind k).charge)
-    (other : (m : LayerId) → IsOtherLayer (g.kind k) d.from.layer m ↔ (m ≡ d.layer)) where
-  pub move_of : (a : Arrival) → IsJump vias strips d a → IsViaMove g k (arrival_of d.from) a
+    (other : IsOtherLayer (g.kind k) d.from.layer d.layer) where
+  pub move_of : (a : Arrival) → IsJump vias strips d a → IsViaMoveTo g k (arrival_of d.from) d.layer a
   move_of a h =
       let j = h.through.jump in
       let t = j.within.through in
-      let spans : IsOtherLayer (g.kind k) d.from.layer a.layer = (other a.layer).1 t.to_layer in
+      let spans : IsOtherLayer (g.kind k) d.from.layer a.layer = subst (IsOtherLayer (g.kind k) d.from.layer) (sym t.to_layer) other in
       let there : IsPassableStrip (g.wire_strips d.layer) g.net a.strip = subst (λ (n : NetId). IsPassableStrip (g.wire_strips d.layer) n a.strip) net (subst (λ (ss : List Strip). IsPassableStrip ss d.net a.strip) is_strips j.passable) in
       record {
-        from_span = spans.from_span;
-        to_span = spans.to_span;
-        other_layer = spans.other;
-        passable = subst (λ (l : LayerId). IsWireStrip g l a.strip) (sym t.to_layer) (record { on_layer = on_layer; strip = there });
-        via_strip = h.via_strip.area;
-        via_passable = record {
-          of_kind = of_kind;
-          strip = record {
-            label = h.via_strip.label;
-            listed = subst (λ (ss : List Strip). Contains ss h.via_strip) is_vias h.listed;
-            admits = subst (λ (n : NetId). Admits h.via_strip.label n) net h.through.admits;
+        to_layer = t.to_layer;
+        move = record {
+          from_span = spans.from_span;
+          to_span = spans.to_span;
+          other_layer = spans.other;
+          passable = subst (λ (l : LayerId). IsWireStrip g l a.strip) (sym t.to_layer) (record { on_layer = on_layer; strip = there });
+          via_strip = h.via_strip.area;
+          via_passable = record {
+            of_kind = of_kind;
+            strip = record {
+              label = h.via_strip.label;
+              listed = subst (λ (ss : List Strip). Contains ss h.via_strip) is_vias h.listed;
+              admits = subst (λ (n : NetId). Admits h.via_strip.label n) net h.through.admits;
+            };
           };
+          common = j.within.common;
+          is_common = record { shared = h.through.part; of_two = h.through.is_part; of_all = j.within.is_common };
+          way = t.way;
+          moved = t.moved;
+          cost = t.cost ∙ ap (λ (n : ℕ). d.from.cost + t.way + n) charge;
         };
-        common = j.within.common;
-        is_common = record { shared = h.through.part; of_two = h.through.is_part; of_all = j.within.is_common };
-        way = t.way;
-        moved = t.moved;
-        cost = t.cost ∙ ap (λ (n : ℕ). d.from.cost + t.way + n) charge;
       }
 
-  pub of_move : (a : Arrival) → IsViaMove g k (arrival_of d.from) a → IsJump vias strips d a
-  of_move a h =
-      let layer : a.layer ≡ d.layer = (other a.layer).0 (record { from_span = h.from_span; to_span = h.to_span; other = h.other_layer }) in
-      let there : IsWireStrip g d.layer a.strip = subst (λ (l : LayerId). IsWireStrip g l a.strip) layer h.passable in
+  pub of_move : (a : Arrival) → IsViaMoveTo g k (arrival_of d.from) d.layer a → IsJump vias strips d a
+  of_move a to =
+      let h = to.move in
+      let there : IsWireStrip g d.layer a.strip = subst (λ (l : LayerId). IsWireStrip g l a.strip) to.to_layer h.passable in
       let w : Strip = record { area = h.via_strip; label = h.via_passable.strip.label } in
       record {
         via_strip = w;
@@ -62,7 +67,7 @@ module _ (g : Ground) (k : KindId) (d : Departure) (vias strips : List Strip) (o
               common = h.common;
               is_common = h.is_common.of_all;
               through = record {
-                to_layer = layer;
+                to_layer = to.to_layer;
                 to_strip = refl;
                 way = h.way;
                 moved = h.moved;

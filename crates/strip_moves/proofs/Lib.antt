@@ -2,6 +2,7 @@ pub mod AllMoves
 pub mod Away
 pub mod Boards
 pub mod Bounded
+pub mod ByLayers
 pub mod ByVias
 pub mod Costs
 pub mod Found

@@ -1,6 +1,5 @@
 -- The planes of a state are the ground that the state's shapes leave to each net.
-use Rattle.std.proofs.Common.{◌≡◌, ◌<◌, ℤ, pos, ◌≤ℤ◌, List, ◌↔◌, length, refl, arith}
-use Rattle.std.specs.Prelude.{unsigned_abs}
+use Rattle.std.proofs.Common.{◌<◌, ℤ, pos, ◌≤ℤ◌, List, ◌↔◌, length, refl, arith}
 use Rattle.std.proofs.lemmas.Int.{ints}
 use Rattle.geo_rect.specs.declared.ids.NetId.{NetId}
 use Rattle.geo_rect.specs.declared.shapes.Point.{Point}
@@ -8,7 +7,6 @@ use Rattle.geo_rect.specs.Axis.{HasNumber}
 use Rattle.geo_rect.specs.Plane.{HasPoint, lone}
 use Rattle.board_model.specs.declared.parts.BoardParts.{BoardParts}
 use Rattle.board_model.specs.declared.shapes.Shape.{Shape}
-use Rattle.board_model.specs.Lookup.{class_of}
 use Rattle.board_model.specs.Rules.{IsBoard, IsSide, IsOnBoard}
 use Rattle.plane_set.specs.declared.families.Family.TheVariants.{Wires, Vias}
 use Rattle.plane_set.specs.Standing.{PlaneTable, StandsFor}

@@ -59,7 +59,7 @@ fn way_between(a: Rect, b: Rect) -> u64
     requires first { IsOnLargestBoard a }
     requires second { IsOnLargestBoard b }
     ensures exact { IsDistance a b result }
-    ensures short { result ≤ 2 ^ 21 }
+    ensures short { result ≤ 2 ^ 24 }
 {
     dist(a, b)
 }

@@ -18,4 +18,5 @@ pub use labels::admits;
 pub use laws::planes_are_a_ground;
 pub use moves::moves_of;
 pub use net_planes::{vias_of, wires_of};
+pub use spans::joins;
 pub use starts::starts_of;

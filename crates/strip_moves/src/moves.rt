@@ -9,14 +9,15 @@ ghost use Rattle.strip_moves.specs.Departures.{IsOpen};
 ghost use Rattle.strip_moves.specs.Gains.{Gains};
 ghost use Rattle.strip_moves.specs.Grounds.{board_area, ground_of};
 ghost use Rattle.strip_moves.specs.Listed.{HasArrival, IsMoveFrom};
+ghost use Rattle.strip_moves.specs.Spans.{IsViaMoveTo};
 
 use crate::departures::Departure;
 use crate::edges::push_steps;
 use crate::jumps::push_jumps;
 use crate::net_planes::{vias_of, wires_of};
-use crate::spans::other_layer;
+use crate::spans::joins;
 use board_model::Board;
-use geo_rect::{KindId, List, NetId, NoMemory};
+use geo_rect::{KindId, LayerId, List, NetId, NoMemory};
 use plane_core::Plane;
 use plane_set::PlaneSet;
 use route_law::{Entry, Origin};
@@ -84,10 +85,35 @@ fn push_jumps_by<P: Plane>(
     requires inside { LiesIn d.from.strip (board_area board.now.parts) }
     ensures { OnOk result (Gains moves.old moves.new (Via number k) (IsViaMove (ground_of board.now.parts planes.now d.net) k (arrival_of d.from))) }
 {
+    for layer in 0..board.layers() {
+        push_jumps_to(alloc, board, planes, moves, d, number, k, LayerId(layer))?;
+    }
+    Ok(())
+}
+
+/// Adds the moves by vias of kind `k` from that entry to one layer, if the kind joins the two.
+fn push_jumps_to<P: Plane>(
+    alloc: Global,
+    board: &Board,
+    planes: &PlaneSet<P>,
+    moves: &mut List<Entry>,
+    d: Departure,
+    number: u64,
+    k: KindId,
+    layer: LayerId,
+) -> Result<(), NoMemory>
+    requires planes { HasPlanes board.now.parts planes.now }
+    requires net { d.net.0 < length board.now.parts.net_names }
+    requires kind { k.0 < length board.now.parts.kinds }
+    requires layer { layer.0 < length board.now.parts.layers }
+    requires open { IsOpen d }
+    requires inside { LiesIn d.from.strip (board_area board.now.parts) }
+    ensures { OnOk result (Gains moves.old moves.new (Via number k) (IsViaMoveTo (ground_of board.now.parts planes.now d.net) k (arrival_of d.from) layer)) }
+{
     let kind = board.kind(k);
-    let Some(layer) = other_layer(kind, d.from.layer) else {
+    if !joins(kind, d.from.layer, layer) {
         return Ok(());
-    };
+    }
     let jumps = Departure {
         net: d.net,
         from: d.from,

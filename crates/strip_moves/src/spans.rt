@@ -1,21 +1,29 @@
-ghost use Rattle.std.specs.Prelude.{◌≡◌, ◌+◌, ◌↔◌, IfSome, IfNone};
-ghost use Rattle.geo_rect.specs.declared.ids.LayerId.{LayerId as OneLayer};
+ghost use Rattle.std.specs.Prelude.{◌↔◌, IsTrue};
+ghost use Rattle.board_model.specs.Labels.{IsInSpan};
 ghost use Rattle.strip_moves.specs.Spans.{IsOtherLayer};
 
 use board_model::ViaKind;
 use geo_rect::LayerId;
 
-/// The layer that a kind of via joins with `l`; `None` if it does not join `l`.
-pub fn other_layer(kind: ViaKind, l: LayerId) -> Option<LayerId>
-    requires neighbours { kind.last.0 ≡ kind.first.0 + 1 }
-    ensures some { IfSome result (λ o. (m : OneLayer) → IsOtherLayer kind l m ↔ (m ≡ o)) }
-    ensures none { IfNone result ((m : OneLayer) → IsOtherLayer kind l m → ⊥) }
+/// Whether a via of the kind has a pad on the layer.
+fn is_in_span(kind: ViaKind, l: LayerId) -> bool
+    ensures { IsTrue result ↔ IsInSpan kind l }
 {
-    if l.0 == kind.first.0 {
-        return Some(kind.last);
+    if l.0 < kind.first.0 {
+        return false;
     }
-    if l.0 == kind.last.0 {
-        return Some(kind.first);
+    l.0 <= kind.last.0
+}
+
+/// Whether a via of the kind joins the layer `from` with `to`, another one.
+pub fn joins(kind: ViaKind, from: LayerId, to: LayerId) -> bool
+    ensures { IsTrue result ↔ IsOtherLayer kind from to }
+{
+    if !is_in_span(kind, from) {
+        return false;
     }
-    None
+    if !is_in_span(kind, to) {
+        return false;
+    }
+    to.0 != from.0
 }

@@ -15,7 +15,7 @@ use route_law::Cert;
 use std::alloc::Global;
 
 /// What a search found.
-#[derive(Debug, Drop)]
+#[derive(Drop)]
 pub enum Found {
     /// The cheapest walk costs this, in micrometres of wire. The front of this entry of the certificate
     /// comes within its strip to `end`, a node of a target box, at this cost in all.

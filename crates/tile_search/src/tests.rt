@@ -1,4 +1,5 @@
 ghost use Rattle.std.specs.Prelude.{◌<◌, ◌≡◌, length, slice_get, All, Some, IsTrue};
+ghost use Rattle.board_model.specs.Rules.{IsOnBoard};
 ghost use Rattle.board_model.specs.Shapes.{place_of};
 ghost use Rattle.board_model.specs.WellFormed.{IsCoordinate, IsPlace};
 ghost use Rattle.path_trace.specs.Strips.{IsInStripOf};
@@ -11,7 +12,7 @@ ghost use Rattle.tile_search.specs.Answers.{HasRightPath, HasPathEnd};
 ghost use Rattle.walk_check.specs.Corners.{HasPlaces};
 
 use crate::{Found, search};
-use board_model::{Block, Board, BoardParts, Conn, Pin, Rule};
+use board_model::{Block, Board, BoardParts, Conn, Pin, Rule, ViaKind};
 use cert_check::{Verdict, check};
 use flat_plane::FlatPlane;
 use geo_rect::{ClassId, LayerId, List, NetId, NoMemory, Node, Rect, Spot, Text};
@@ -33,13 +34,17 @@ fn right_pin() -> Rect {
     Rect::new(34, 9, 36, 11)
 }
 
-fn pin(area: Rect) -> Pin {
+fn pin(spot: Spot) -> Pin {
     Pin {
         net: NetId(0),
-        area,
-        first: TOP,
-        last: TOP,
+        area: spot.area,
+        first: spot.layer,
+        last: spot.layer,
     }
+}
+
+fn on_top(area: Rect) -> Spot {
+    Spot { layer: TOP, area }
 }
 
 /// One layer, one class and one net with two pins, and walls.
@@ -53,6 +58,7 @@ fn fill(
     parts.layers.push(Text::from_str(alloc, "top")?)?;
     parts.classes.push(Text::from_str(alloc, "thin")?)?;
     parts.rules.push(Rule { half: 1, gap: 2 })?;
+    parts.gaps.push(2)?;
     parts.net_names.push(Text::from_str(alloc, "a")?)?;
     parts.net_classes.push(ClassId(0))?;
     for wall in walls {
@@ -61,8 +67,8 @@ fn fill(
             area: *wall,
         })?;
     }
-    parts.pins.push(pin(from))?;
-    parts.pins.push(pin(to))
+    parts.pins.push(pin(on_top(from)))?;
+    parts.pins.push(pin(on_top(to)))
 }
 
 fn board_with(
@@ -78,19 +84,28 @@ fn board_with(
     Board::build(alloc, parts)
 }
 
+fn is_within(area: Rect, width: i32, height: i32) -> bool
+    ensures { IsTrue result → IsOnBoard width height area }
+{
+    if area.x0 < 0 {
+        return false;
+    }
+    if area.y0 < 0 {
+        return false;
+    }
+    if area.x1 > width {
+        return false;
+    }
+    area.y1 <= height
+}
+
 fn is_on_board(board: &Board, spot: Spot) -> bool
     ensures { IsTrue result → IsBoardBox board.now.parts spot }
 {
     if spot.layer.0 >= board.layers() {
         return false;
     }
-    if spot.area.x0 < 0 || spot.area.y0 < 0 {
-        return false;
-    }
-    if spot.area.x1 > board.width() {
-        return false;
-    }
-    spot.area.y1 <= board.height()
+    is_within(spot.area, board.width(), board.height())
 }
 
 fn are_on_board(board: &Board, spots: &[Spot]) -> bool
@@ -196,8 +211,28 @@ fn verdict_on<P: Plane>(
     }
 }
 
-/// What the search finds from one pin to the other over the board with these walls; the checker must
-/// say yes to it.
+/// What the search finds on the board from one box to the other; the checker must say yes to it.
+fn search_on<P: Plane>(
+    rt: &impl Abort,
+    alloc: Global,
+    board: &Board,
+    from: Spot,
+    to: Spot,
+) -> Result<Found, NoMemory> {
+    let planes: PlaneSet<P> = PlaneSet::build(alloc, board)?;
+    let sources = [from];
+    let targets = [to];
+    assert!(rt; board.nets() > 0);
+    assert!(rt; are_on_board(board, &sources));
+    assert!(rt; are_on_board(board, &targets));
+    let net = NetId(0);
+    let found = search(alloc, board, &planes, net, &sources, &targets)?;
+    let verdict = verdict_on(rt, alloc, board, &planes, net, &sources, &targets, &found)?;
+    assert_eq!(rt; verdict, Verdict::Yes);
+    Ok(found)
+}
+
+/// What the search finds from one pin to the other over the board with these walls.
 fn search_past<P: Plane>(
     rt: &impl Abort,
     alloc: Global,
@@ -206,23 +241,7 @@ fn search_past<P: Plane>(
     to: Rect,
 ) -> Result<Found, NoMemory> {
     let board = board_with(rt, alloc, walls, from, to)?;
-    let planes: PlaneSet<P> = PlaneSet::build(alloc, &board)?;
-    let sources = [Spot {
-        layer: TOP,
-        area: from,
-    }];
-    let targets = [Spot {
-        layer: TOP,
-        area: to,
-    }];
-    assert!(rt; board.nets() > 0);
-    assert!(rt; are_on_board(&board, &sources));
-    assert!(rt; are_on_board(&board, &targets));
-    let net = NetId(0);
-    let found = search(alloc, &board, &planes, net, &sources, &targets)?;
-    let verdict = verdict_on(rt, alloc, &board, &planes, net, &sources, &targets, &found)?;
-    assert_eq!(rt; verdict, Verdict::Yes);
-    Ok(found)
+    search_on::<P>(rt, alloc, &board, on_top(from), on_top(to))
 }
 
 /// What the path costs and where it ends, `None` where there is no route.
@@ -301,5 +320,61 @@ fn the_dearer_of_two_fronts_leads_on(rt: HostRuntime) -> Result<(), Fail> {
         layer: TOP,
     };
     assert!(rt; path_of(&found) == Some((44, end)));
+    Ok(())
+}
+
+/// Three layers, a kind of via from the first to the last, a wall on the one between, and a net with
+/// two pins.
+fn fill_three(
+    alloc: Global,
+    parts: &mut BoardParts,
+    wall: Rect,
+    from: Spot,
+    to: Spot,
+) -> Result<(), NoMemory> {
+    for name in ["top", "mid", "bot"] {
+        parts.layers.push(Text::from_str(alloc, name)?)?;
+        parts.rules.push(Rule { half: 1, gap: 2 })?;
+        parts.gaps.push(2)?;
+    }
+    parts.classes.push(Text::from_str(alloc, "sig")?)?;
+    parts.kind_names.push(Text::from_str(alloc, "thru")?)?;
+    parts.kinds.push(ViaKind {
+        first: TOP,
+        last: LayerId(2),
+        charge: 5,
+    })?;
+    parts.pads.push(2)?;
+    parts.inners.push(2)?;
+    parts.net_names.push(Text::from_str(alloc, "a")?)?;
+    parts.net_classes.push(ClassId(0))?;
+    parts.blocks.push(Block {
+        layer: LayerId(1),
+        area: wall,
+    })?;
+    parts.pins.push(pin(from))?;
+    parts.pins.push(pin(to))
+}
+
+/// The via has a pad on the layer between as well, and with it keeps 2 from the wall there: it stands
+/// at 18, one past the pin.
+#[test]
+fn a_via_joins_the_first_layer_and_the_last(rt: HostRuntime) -> Result<(), Fail> {
+    let mut parts = BoardParts::new(rt.alloc(), "through", 40, 20)?;
+    let from = on_top(Rect::new(10, 10, 10, 10));
+    let to = Spot {
+        layer: LayerId(2),
+        area: Rect::new(17, 10, 17, 10),
+    };
+    fill_three(rt.alloc(), &mut parts, Rect::new(5, 8, 14, 12), from, to)?;
+    assert!(rt; parts.is_board());
+    let board = Board::build(rt.alloc(), parts)?;
+    let found = search_on::<FlatPlane>(&rt, rt.alloc(), &board, from, to)?;
+    let end = Node {
+        x: 17,
+        y: 10,
+        layer: LayerId(2),
+    };
+    assert!(rt; path_of(&found) == Some((14, end)));
     Ok(())
 }

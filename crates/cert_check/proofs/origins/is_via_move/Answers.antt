@@ -1,8 +1,8 @@
 use Rattle.std.proofs.Common.{subst, sym}
 use Rattle.board_model.specs.declared.parts.ViaKind.{ViaKind}
-use Rattle.board_model.specs.Labels.{IsInSpan}
 use Rattle.route_law.specs.Moves.{arrival_of}
 use Rattle.strip_moves.specs.Grounds.{ground_of}
+use Rattle.strip_moves.specs.Spans.{IsOtherLayer}
 use Rattle.cert_check.specs.Fronts.{IsMoved}
 use Rattle.cert_check.proofs.Cases.{not_true, not_both}
 use Rattle.cert_check.proofs.Meets.{three_third}
@@ -19,10 +19,9 @@ returns-in_default g c =
 
 pub returns-then-not-joins : goal.returns-then-not-joins
 returns-then-not-joins g c =
-    let P : ViaKind → Type 0 = λ kind. IsInSpan kind c.args.from.layer in
-    let Q : ViaKind → Type 0 = λ kind. IsInSpan kind c.args.to.layer in
+    let P : ViaKind → Type 0 = λ kind. IsOtherLayer kind c.args.from.layer c.args.to.layer in
     let e = sym c.kind-kind.ensures.value in
-    (λ t. absurd (not_true t), λ m. absurd (not_both (c.joins.ensures.1 (subst P e m.from_span, subst Q e m.to_span, m.other_layer)) c.if-not-joins.true))
+    (λ t. absurd (not_true t), λ m. absurd (not_both (c.joins.ensures.1 (subst P e (record { from_span = m.from_span; to_span = m.to_span; other = m.other_layer }))) c.if-not-joins.true))
 
 pub returns-in_default-meet_of_three : goal.returns-in_default-meet_of_three
 returns-in_default-meet_of_three g c =
@@ -47,13 +46,12 @@ returns g c =
     let from = arrival_of c.args.from in
     let to = arrival_of c.args.to in
     let own = c.in-Some-meet_of_three in
-    let P : ViaKind → Type 0 = λ kind. IsInSpan kind c.args.from.layer in
-    let Q : ViaKind → Type 0 = λ kind. IsInSpan kind c.args.to.layer in
+    let P : ViaKind → Type 0 = λ kind. IsOtherLayer kind c.args.from.layer c.args.to.layer in
     let R : ViaKind → Type 0 = λ kind. IsMoved from own.common kind.charge to in
     let e = c.kind-kind.ensures.value in
-    let j = c.joins.ensures.0 c.if-not-joins.false in (
+    let j = subst P e (c.joins.ensures.0 c.if-not-joins.false) in (
       λ t.
-          by_via ground c.args.k from to c.in-Some.pass own.common c.requires.placed c.in-Some.ensures.some.strip (subst P e j.0) (subst Q e j.1) j.2 own.ensures.some (subst R e (c.is_moved.ensures.0 t)),
+          by_via ground c.args.k from to c.in-Some.pass own.common c.requires.placed c.in-Some.ensures.some.strip j.from_span j.to_span j.other own.ensures.some (subst R e (c.is_moved.ensures.0 t)),
       λ m.
           let n = moved_by ground c.args.k from to c.corner.result c.in-Some.pass
           (the_ground b.parts c.args.planes.now c.args.net b.kept c.requires.planes c.requires.net) c.corner.ensures c.in-Some.ensures.some m in

@@ -5,17 +5,17 @@ use Rattle.plane_set.specs.Joins.{IsPieceBarred}
 use Rattle.plane_set.proofs.Barring.{barred_here}
 use Rattle.plane_set.proofs.frames.bar.Goals as goal
 
-pub loop-edge-preserved : goal.loop-edge-preserved
-loop-edge-preserved g c =
+pub loop-piece-preserved : goal.loop-piece-preserved
+loop-piece-preserved g c =
     let domain = g.P.Plane.region c.args.plane in
     let area = c.args.area in
     let old = label_of (g.P.Plane.strips c.args.plane) in
-    let mid = label_of (g.P.Plane.strips c.loop-edge.barred) in
+    let mid = label_of (g.P.Plane.strips c.loop-piece.barred) in
     let new = label_of (g.P.Plane.strips c.in_ok-barred.barred) in
-    let r = c.edge-item.result in
-    let step : IsPieceBarred domain area r mid new = subst (λ (d : Rect). IsPieceBarred d area r mid new) c.loop-edge.invariant.region c.in_ok-barred.ensures.labels in
+    let r = c.piece-item.result in
+    let step : IsPieceBarred domain area r mid new = subst (λ (d : Rect). IsPieceBarred d area r mid new) c.loop-piece.invariant.region c.in_ok-barred.ensures.labels in
     record {
-      region = c.in_ok-barred.ensures.region ∙ c.loop-edge.invariant.region;
-      labels = barred_here domain area old c.requires c.args.edges.now c.loop-edge.edge-index r c.edge-item.is (omega arith) mid new c.loop-edge.invariant.labels step;
+      region = c.in_ok-barred.ensures.region ∙ c.loop-piece.invariant.region;
+      labels = barred_here domain area old c.requires c.args.pieces.now c.loop-piece.piece-index r c.piece-item.is (omega arith) mid new c.loop-piece.invariant.labels step;
       canonical = c.in_ok-barred.ensures.canonical;
     }
