@@ -1,6 +1,7 @@
 -- The generated board keeps every rule of the board text, so that its text is read back.
 use Rattle.std.proofs.Common.{◌≡◌, ◌≢◌, ℕ, ℤ, pos, ◌+◌, ◌-◌, ◌*◌, ◌%◌, ◌^◌, ◌<◌, ◌≤◌, suc, zero, true, List, [], ◌∷◌, ◌++◌, All, Ok, length, get_or, drop, map, refl, sym, ap, ◌∙◌, arith, length-append}
 use Rattle.std.specs.Prelude.{codes, decimal, AllPairs, IfOk, Result, Err, ◌==◌, nat_lt, if◌then◌else◌}
+use Rattle.std.specs.Int.{int_max}
 use Rattle.std.specs.List.{range_with_len, flat_map, list_all}
 use Rattle.std.proofs.lemmas.Bool.{ltb-true, cond_both}
 use Rattle.std.proofs.lemmas.Fmt.{decimal_injective, length-decimal-le}
@@ -9,17 +10,19 @@ use Rattle.std.proofs.lemmas.List.Elements.{All-nil, All-cons, All-append, All-f
 use Rattle.std.proofs.lemmas.List.FromFn.{get_or-map-range_with_len, length-map-range_with_len}
 use Rattle.geo_rect.specs.declared.ids.ClassId.{ClassId}
 use Rattle.board_model.specs.Commands.{IsCommandOf}
-use Rattle.board_model.specs.Lookup.{layer_at}
-use Rattle.board_model.specs.Rules.{IsBoard, IsBlock, IsPin, IsKind, IsRule, IsMeasure, IsName, AreNames, IsOnBoard, IsWordByte}
+use Rattle.board_model.specs.Lookup.{layer_at, rule_of, gap_of}
+use Rattle.board_model.specs.Rules.{IsBoard, IsBlock, IsKeepout, IsPin, IsKind, IsRule, IsMeasure, IsName, AreNames, IsOnBoard, IsWordByte}
 use Rattle.board_model.specs.declared.commands.Command.TheVariants as command
 use Rattle.board_model.specs.declared.parts.Block.{Block}
 use Rattle.board_model.specs.declared.parts.BoardParts.{BoardParts}
+use Rattle.board_model.specs.declared.parts.Keepout.{Keepout}
 use Rattle.board_model.specs.declared.parts.Pin.{Pin}
 use Rattle.board_model.specs.declared.parts.Rule.{Rule}
 use Rattle.board_model.specs.declared.parts.ViaKind.{ViaKind}
 use Rattle.board_reader.specs.Lines.{is_word_byte}
 use Rattle.board_reader.specs.Reading.{reading}
-use Rattle.board_text.specs.Spelled.{spelled, told_of, class_at}
+use Rattle.board_text.specs.declared.spelling.Version.TheVariants.{First}
+use Rattle.board_text.specs.Spelled.{spelled, told_of, class_at, IsOfFirstVersion}
 use Rattle.board_text.proofs.Lines.{word-bytes}
 use Rattle.board_text.proofs.Numerals.{good-decimal}
 use Rattle.board_text.proofs.Whole.{spelled-is-read}
@@ -118,6 +121,16 @@ measure n low high = record { from = omega (arith, ints); to = omega (arith, int
 wire-is : IsRule wire
 wire-is = record { half = measure 10 (omega arith) (omega arith); gap = measure 10 (omega arith) (omega arith) }
 
+-- a list of two that are alike
+two-alike : {T : Type 0} (x d : T) (k : ℕ) → k < 2 → get_or (x ∷ x ∷ []) k d ≡ x
+two-alike x d zero h = refl
+two-alike x d (suc zero) h = refl
+two-alike x d (suc (suc k)) h = absurd (omega arith)
+
+-- there is one class
+one-class : (c d : ClassId) → c.0 < 1 → d.0 < 1 → c ≡ d
+one-class c d first second = let e : c.0 ≡ d.0 = omega arith in λ i. record { 0 = e i }
+
 pub generated-is-board : (n : ℕ) → 1 ≤ n → n ≤ 2000 → IsBoard (generated_board n)
 unfolding generated_board
 generated-is-board n some few =
@@ -135,12 +148,19 @@ generated-is-board n some few =
       some_class = omega arith;
       rules = refl;
       each_rule = All-cons IsRule wire (wire ∷ []) wire-is (All-cons IsRule wire [] wire-is (All-nil IsRule));
+      gaps = refl;
+      each_gap = All-cons IsMeasure (pos 10) (pos 10 ∷ []) (measure 10 (omega arith) (omega arith)) (All-cons IsMeasure (pos 10) [] (measure 10 (omega arith) (omega arith)) (All-nil IsMeasure));
+      pairs = λ l c d inside first second. let e = one-class c d first second in λ i. gap_of (generated_board n) l (e i) (sym e i);
       kind_names = one-name 8 (codes "v") (omega arith) (tested-name (codes "v") (omega arith) (omega arith) refl);
       kinds = refl;
-      each_kind = All-cons (IsKind 2) kind [] (record { neighbours = refl; known = omega arith; charge = omega arith }) (All-nil (IsKind 2));
+      each_kind = All-cons (IsKind 2) kind [] (record { order = omega arith; known = omega arith; charge = omega arith }) (All-nil (IsKind 2));
       pads = refl;
       each_pad = All-cons IsMeasure (pos 15) [] (measure 15 (omega arith) (omega arith)) (All-nil IsMeasure);
+      inners = refl;
+      each_inner = All-cons IsMeasure (pos 15) [] (measure 15 (omega arith) (omega arith)) (All-nil IsMeasure);
+      plain = λ k c known of two. refl;
       blocks = omega (arith, blocks);
+      each_keepout = All-nil (IsKeepout (generated_board n));
       each_block = map-all (IsBlock (generated_board n)) block_of 1 n (λ k l m. block-fits n k (omega arith));
       net_names = net-names n few;
       net_classes = classes ∙ sym names;
@@ -149,28 +169,40 @@ generated-is-board n some few =
       each_pin = flat_map-all (IsPin (generated_board n)) (pins_of n) n 1 (λ k l m. pins-fit n k l (omega arith));
     }
 
+-- it fits the first version
+pub generated-is-first : (n : ℕ) → n ≤ 2000 → IsOfFirstVersion (generated_board n)
+unfolding generated_board
+generated-is-first n few = record {
+  width = omega (arith, ints);
+  height = omega (arith, ints);
+  gaps = λ l c d inside first second.
+      let one : rule_of (generated_board n) l c ≡ wire = two-alike wire _ (l.0 * 1 + c.0) (omega arith) in
+      let other : rule_of (generated_board n) l d ≡ wire = two-alike wire _ (l.0 * 1 + d.0) (omega arith) in
+      two-alike (pos 10) (pos 1) ((l.0 * 1 + c.0) * 1 + d.0) (omega arith) ∙ (λ i. int_max (sym one i).gap (sym other i).gap);
+}
+
 -- what is asked for names nothing
 pub asked-of-any : (b : BoardParts) → All (IsCommandOf b) asked
 asked-of-any b = All-cons (IsCommandOf b) command.All (command.Rules ∷ []) tt (All-cons (IsCommandOf b) command.Rules [] tt (All-nil (IsCommandOf b)))
 
 pub generated-is-read : (n : ℕ) → 1 ≤ n → n ≤ 2000 → reading (generated n) ≡ Ok (told_of (generated_board n) asked)
 unfolding generated
-generated-is-read n some few = spelled-is-read (generated_board n) asked (generated-is-board n some few) (asked-of-any (generated_board n)) (omega arith)
+generated-is-read n some few = spelled-is-read First (generated_board n) asked (generated-is-first n few) (generated-is-board n some few) (asked-of-any (generated_board n)) (omega arith)
 
 -- the board whose lists are those of the generated one
-pub same-board : (n : ℕ) (name : List ℕ) (height : ℤ) (layers classes : List (List ℕ)) (rules : List Rule) (kind_names : List (List ℕ)) (kinds : List ViaKind) (pads : List ℤ) (blocks : List Block) (net_names : List (List ℕ)) (net_classes : List ClassId) (pins : List Pin)
-    → name ≡ codes "gen" ++ decimal n → height ≡ pos (100 * n + 200) → layers ≡ codes "top" ∷ codes "bot" ∷ [] → classes ≡ codes "sig" ∷ [] → rules ≡ wire ∷ wire ∷ []
-    → kind_names ≡ codes "v" ∷ [] → kinds ≡ record { first = layer_at 0; last = layer_at 1; charge = 50 } ∷ [] → pads ≡ pos 15 ∷ []
-    → blocks ≡ map block_of (range_with_len 1 n) → net_names ≡ map net_name_of (range_with_len 1 n) → net_classes ≡ map (λ i. class_at 0) (range_with_len 1 n) → pins ≡ flat_map (pins_of n) (range_with_len 1 n)
-    → record { name = name; width = pos 20000; height = height; layers = layers; classes = classes; rules = rules; kind_names = kind_names; kinds = kinds; pads = pads; blocks = blocks; net_names = net_names; net_classes = net_classes; pins = pins } ≡ generated_board n
+pub same-board : (n : ℕ) (name : List ℕ) (height : ℤ) (layers classes : List (List ℕ)) (rules : List Rule) (gaps : List ℤ) (kind_names : List (List ℕ)) (kinds : List ViaKind) (pads inners : List ℤ) (blocks : List Block) (keepouts : List Keepout) (net_names : List (List ℕ)) (net_classes : List ClassId) (pins : List Pin)
+    → name ≡ codes "gen" ++ decimal n → height ≡ pos (100 * n + 200) → layers ≡ codes "top" ∷ codes "bot" ∷ [] → classes ≡ codes "sig" ∷ [] → rules ≡ wire ∷ wire ∷ [] → gaps ≡ pos 10 ∷ pos 10 ∷ []
+    → kind_names ≡ codes "v" ∷ [] → kinds ≡ record { first = layer_at 0; last = layer_at 1; charge = 50 } ∷ [] → pads ≡ pos 15 ∷ [] → inners ≡ pos 15 ∷ []
+    → blocks ≡ map block_of (range_with_len 1 n) → keepouts ≡ [] → net_names ≡ map net_name_of (range_with_len 1 n) → net_classes ≡ map (λ i. class_at 0) (range_with_len 1 n) → pins ≡ flat_map (pins_of n) (range_with_len 1 n)
+    → record { name = name; width = pos 20000; height = height; layers = layers; classes = classes; rules = rules; gaps = gaps; kind_names = kind_names; kinds = kinds; pads = pads; inners = inners; blocks = blocks; keepouts = keepouts; net_names = net_names; net_classes = net_classes; pins = pins } ≡ generated_board n
 unfolding generated_board
-same-board n name height layers classes rules kind_names kinds pads blocks net_names net_classes pins e1 e2 e3 e4 e5 e6 e7 e8 e9 e10 e11 e12 =
-    λ i. record { name = e1 i; width = pos 20000; height = e2 i; layers = e3 i; classes = e4 i; rules = e5 i; kind_names = e6 i; kinds = e7 i; pads = e8 i; blocks = e9 i; net_names = e10 i; net_classes = e11 i; pins = e12 i }
+same-board n name height layers classes rules gaps kind_names kinds pads inners blocks keepouts net_names net_classes pins e1 e2 e3 e4 e5 e6 e7 e8 e9 e10 e11 e12 e13 e14 e15 =
+    λ i. record { name = e1 i; width = pos 20000; height = e2 i; layers = e3 i; classes = e4 i; rules = e5 i; gaps = e6 i; kind_names = e7 i; kinds = e8 i; pads = e9 i; inners = e10 i; blocks = e11 i; keepouts = e12 i; net_names = e13 i; net_classes = e14 i; pins = e15 i }
 
 -- what was spelled of the board is the generated text
-pub spelled-generated : {E : Type 0} (r : Result (List ℕ) E) (b : BoardParts) (n : ℕ) → b ≡ generated_board n → IfOk r (λ t. t ≡ spelled b asked) → IfOk r (λ t. t ≡ generated n)
+pub spelled-generated : {E : Type 0} (r : Result (List ℕ) E) (b : BoardParts) (n : ℕ) → b ≡ generated_board n → IfOk r (λ t. t ≡ spelled First b asked) → IfOk r (λ t. t ≡ generated n)
 unfolding generated
-spelled-generated (Ok t) b n e h = h ∙ ap (λ x. spelled x asked) e
+spelled-generated (Ok t) b n e h = h ∙ ap (λ x. spelled First x asked) e
 spelled-generated (Err x) b n e h = h
 
 pub read-generated : {E : Type 0} (r : Result (List ℕ) E) (n : ℕ) → 1 ≤ n → n ≤ 2000 → IfOk r (λ t. t ≡ generated n) → IfOk r (λ t. reading t ≡ Ok (told_of (generated_board n) asked))

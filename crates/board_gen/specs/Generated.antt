@@ -14,6 +14,7 @@ use Rattle.board_model.specs.declared.parts.BoardParts.{BoardParts}
 use Rattle.board_model.specs.declared.parts.Pin.{Pin}
 use Rattle.board_model.specs.declared.parts.Rule.{Rule}
 use Rattle.board_model.specs.Lookup.{layer_at}
+use Rattle.board_text.specs.declared.spelling.Version.TheVariants.{First}
 use Rattle.board_text.specs.Spelled.{spelled, class_at, net_at}
 
 pub length-ordered : (a n : ℕ) → pos a ≤ℤ pos (a + n)
@@ -60,10 +61,13 @@ generated_board n = record {
   layers = codes "top" ∷ codes "bot" ∷ [];
   classes = codes "sig" ∷ [];
   rules = wire ∷ wire ∷ [];
+  gaps = pos 10 ∷ pos 10 ∷ [];
   kind_names = codes "v" ∷ [];
   kinds = record { first = layer_at 0; last = layer_at 1; charge = 50 } ∷ [];
   pads = pos 15 ∷ [];
+  inners = pos 15 ∷ [];
   blocks = map block_of (range_with_len 1 n);
+  keepouts = [];
   net_names = map net_name_of (range_with_len 1 n);
   net_classes = map (λ i. class_at 0) (range_with_len 1 n);
   pins = flat_map (pins_of n) (range_with_len 1 n);
@@ -73,6 +77,6 @@ generated_board n = record {
 abbrev pub asked : List Command
 asked = All ∷ Rules ∷ []
 
--- the generated text of n nets
+-- the generated text of n nets, of the first version
 unfoldable pub generated : ℕ → List ℕ
-generated n = spelled (generated_board n) asked
+generated n = spelled First (generated_board n) asked

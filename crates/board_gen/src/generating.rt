@@ -5,7 +5,7 @@ ghost use Rattle.board_gen.specs.Generated.{generated, generated_board, asked};
 
 use crate::parts::parts;
 use board_model::{Board, Command};
-use board_text::spell;
+use board_text::{Version, spell};
 use geo_rect::{List, NoMemory};
 use std::alloc::Global;
 
@@ -29,5 +29,6 @@ pub fn generate(alloc: Global, n: u32) -> Result<List<u8>, NoMemory>
     ensures read { IfOk result (λ text. reading text ≡ Ok (told_of (generated_board n) asked)) }
 {
     let board = board(alloc, n)?;
-    spell(alloc, &board, &[Command::All, Command::Rules])
+    let commands = [Command::All, Command::Rules];
+    spell(alloc, Version::First, &board, &commands)
 }

@@ -10,20 +10,22 @@ use geo_rect::{ClassId, LayerId, List, NoMemory, Text};
 use itoa::Buffer;
 use std::alloc::Global;
 
-/// The layers, the classes and the rules of a board.
+/// The layers, the classes and the rules of a board, and its gaps in micrometres.
 #[derive(Drop)]
 struct Wires {
     layers: List<Text>,
     classes: List<Text>,
     rules: List<Rule>,
+    gaps: List<i32>,
 }
 
-/// The kinds of vias of a board.
+/// The kinds of vias of a board, and half the widths of their pads in micrometres.
 #[derive(Drop)]
 struct Vias {
     names: List<Text>,
     kinds: List<ViaKind>,
     pads: List<i32>,
+    inners: List<i32>,
 }
 
 /// The nets of a board.
@@ -66,15 +68,18 @@ impl Wires {
         ensures layers { IfOk result (λ w. w.layers ≡ codes "top" ∷ codes "bot" ∷ []) }
         ensures classes { IfOk result (λ w. w.classes ≡ codes "sig" ∷ []) }
         ensures rules { IfOk result (λ w. w.rules ≡ wire ∷ wire ∷ []) }
+        ensures gaps { IfOk result (λ w. w.gaps ≡ pos 10 ∷ pos 10 ∷ []) }
     {
         let wire = Rule { half: 10, gap: 10 };
         let layers = layer_names(alloc)?;
         let classes = one_name(alloc, "sig")?;
         let rules = List::from_slice(alloc, &[wire, wire])?;
+        let gaps = List::from_slice(alloc, &[10, 10])?;
         Ok(Wires {
             layers,
             classes,
             rules,
+            gaps,
         })
     }
 }
@@ -84,6 +89,7 @@ impl Vias {
         ensures names { IfOk result (λ v. v.names ≡ codes "v" ∷ []) }
         ensures kinds { IfOk result (λ v. v.kinds ≡ record { first = layer_at 0; last = layer_at 1; charge = 50 } ∷ []) }
         ensures pads { IfOk result (λ v. v.pads ≡ pos 15 ∷ []) }
+        ensures inners { IfOk result (λ v. v.inners ≡ pos 15 ∷ []) }
     {
         let kind = ViaKind {
             first: LayerId(0),
@@ -93,7 +99,13 @@ impl Vias {
         let names = one_name(alloc, "v")?;
         let kinds = List::from_slice(alloc, &[kind])?;
         let pads = List::from_slice(alloc, &[15])?;
-        Ok(Vias { names, kinds, pads })
+        let inners = List::from_slice(alloc, &[15])?;
+        Ok(Vias {
+            names,
+            kinds,
+            pads,
+            inners,
+        })
     }
 }
 
@@ -184,6 +196,7 @@ fn height(n: u32) -> i32
 /// The generated board of `n` nets, put together.
 #[tactic(auto, unfolding(crate::specs::Generated::generated_board))]
 fn put_together(
+    alloc: Global,
     n: u32,
     name: Text,
     wires: Wires,
@@ -196,9 +209,11 @@ fn put_together(
     requires layers { wires.layers ≡ codes "top" ∷ codes "bot" ∷ [] }
     requires classes { wires.classes ≡ codes "sig" ∷ [] }
     requires rules { wires.rules ≡ wire ∷ wire ∷ [] }
+    requires gaps { wires.gaps ≡ pos 10 ∷ pos 10 ∷ [] }
     requires kind_names { vias.names ≡ codes "v" ∷ [] }
     requires kinds { vias.kinds ≡ record { first = layer_at 0; last = layer_at 1; charge = 50 } ∷ [] }
     requires pads { vias.pads ≡ pos 15 ∷ [] }
+    requires inners { vias.inners ≡ pos 15 ∷ [] }
     requires blocks { blocks ≡ map block_of (range_with_len 1 n) }
     requires net_names { nets.names ≡ map net_name_of (range_with_len 1 n) }
     requires net_classes { nets.classes ≡ map (λ i. class_at 0) (range_with_len 1 n) }
@@ -212,10 +227,13 @@ fn put_together(
         layers: wires.layers,
         classes: wires.classes,
         rules: wires.rules,
+        gaps: wires.gaps,
         kind_names: vias.names,
         kinds: vias.kinds,
         pads: vias.pads,
+        inners: vias.inners,
         blocks,
+        keepouts: List::new(alloc),
         net_names: nets.names,
         net_classes: nets.classes,
         pins: nets.pins,
@@ -232,5 +250,5 @@ pub fn parts(alloc: Global, n: u32) -> Result<BoardParts, NoMemory>
     let vias = Vias::new(alloc)?;
     let blocks = blocks(alloc, n)?;
     let nets = Nets::of(alloc, n)?;
-    Ok(put_together(n, name, wires, vias, blocks, nets))
+    Ok(put_together(alloc, n, name, wires, vias, blocks, nets))
 }

@@ -1,9 +1,10 @@
 -- A line that breaks no rule leaves a draft that keeps all rules so far.
-use Rattle.std.proofs.Common.{◌≡◌, ℕ, pos, ◌+◌, ◌<◌, ◌≤◌, min, max, true, false, List, [], All, length, arith, inl, inr}
-use Rattle.std.specs.Prelude.{◌==◌, Option, Some, None}
-use Rattle.std.proofs.lemmas.Bool.{eqb-true, ltb-false, or_cases, not-false}
+use Rattle.std.proofs.Common.{◌≡◌, ◌≢◌, ℕ, pos, ◌+◌, ◌<◌, ◌≤◌, min, max, false, List, [], All, length, arith}
+use Rattle.std.specs.Prelude.{Option, Some, None}
+use Rattle.std.proofs.lemmas.Bool.{eqb-false, ltb-false, not-false}
 use Rattle.std.proofs.lemmas.Int.{ints}
 use Rattle.std.proofs.lemmas.List.{length_push}
+use Rattle.std.proofs.lemmas.List.Elements.{All-push}
 use Rattle.board_model.specs.Rules.{IsName, IsKind, IsOnBoard}
 use Rattle.board_model.specs.declared.commands.Command.{Command}
 use Rattle.board_reader.specs.declared.drafts.Draft.{Draft}
@@ -12,14 +13,14 @@ use Rattle.board_reader.specs.declared.forms.Form.TheVariants as form
 use Rattle.board_reader.specs.declared.forms.Sort.TheVariants as sort
 use Rattle.board_reader.specs.declared.forms.Stage.TheVariants.{Parts}
 use Rattle.board_reader.specs.declared.refusals.RefusalKind.TheVariants.{BadWord, OutOfRange, UnknownName, TooMany, BadRect, MissingRule}
-use Rattle.board_reader.specs.Checks.{fails_whole, is_crossed, are_neighbours, is_complete}
-use Rattle.board_reader.specs.Drafts.{after_form, area_of, layer_of, command_of, with_command}
-use Rattle.board_reader.specs.Kept.{IsDraft, IsWord}
+use Rattle.board_reader.specs.Checks.{fails_whole, is_crossed, is_complete}
+use Rattle.board_reader.specs.Drafts.{after_form, area_at, layer_of, kind_of, nth_kind, command_of, with_command}
+use Rattle.board_reader.specs.Kept.{IsDraft, IsInnerOf, IsWord}
 use Rattle.board_reader.specs.Lines.{word}
 use Rattle.board_reader.specs.Numbers.{number}
 use Rattle.board_reader.specs.Passing.{BreaksNone}
-use Rattle.board_reader.proofs.Adding.{layer-fresh, class-fresh, kind-fresh, net-fresh, rule-half, rule-gap, kind-charge, pad-half, OnBoard, block-corners, pin-corners}
-use Rattle.board_reader.proofs.Growing.{rules-push, pads-push, kinds-push, kinds-grow, nets-push, nets-grow, blocks-push, blocks-grow, blocks-none, pins-push, pins-grow, pins-none, measure-in, side-in}
+use Rattle.board_reader.proofs.Adding.{layer-fresh, class-fresh, kind-fresh, net-fresh, rule-half, rule-gap, clear-gap, kind-charge, pad-half, inner-half, OnBoard, block-corners, keepout-corners, pin-corners}
+use Rattle.board_reader.proofs.Growing.{rules-push, clears-push, pads-push, kinds-push, kinds-grow, inners-grow, nets-push, nets-grow, blocks-push, keepouts-push, blocks-grow, blocks-none, pins-push, pins-grow, pins-none, measure-in, side-in}
 use Rattle.board_reader.proofs.Naming.{names-push, number-in-range}
 use Rattle.board_reader.proofs.Unbroken.{each-place, whole-line, in-range, is-known, is-short, is-short-title, stands, word-count}
 
@@ -30,22 +31,18 @@ name-at ws i n h e inside short =
     record { some = w.some; short = short; word = w.each }
 
 -- the corners on the board that are not crossed
-area-on-board : (d : Draft) (ws : List (List ℕ)) → OnBoard d ws → is_crossed ws ≡ false → IsOnBoard (pos d.heading.width) (pos d.heading.height) (area_of ws)
-area-on-board d ws on e = record {
+area-on-board : (d : Draft) (ws : List (List ℕ)) (i : ℕ) → OnBoard d ws i → is_crossed ws i ≡ false → IsOnBoard (pos d.heading.width) (pos d.heading.height) (area_at ws i)
+area-on-board d ws i on e = record {
   left = omega (arith, ints);
   below = omega (arith, ints);
   right = omega (arith, ints, on.left, on.right);
   above = omega (arith, ints, on.below, on.above);
 }
 
--- layers one of which follows the other, each one of those that there are
-kind-of-neighbours : (layers a b charge : ℕ) → a < layers → b < layers → are_neighbours a b ≡ true → charge ≤ 65535
+-- two different layers of those that there are
+kind-of-two : (layers a b charge : ℕ) → a < layers → b < layers → a ≢ b → charge ≤ 65535
     → IsKind layers (record { first = record { 0 = min a b }; last = record { 0 = max a b }; charge = charge })
-kind-of-neighbours layers a b charge la lb e c =
-    elim (or_cases (a + 1 == b) (b + 1 == a) e) [
-      | inl s ↦ let same = eqb-true (a + 1) b s in record { neighbours = omega (arith, same); known = omega (arith, la, lb); charge = c }
-      | inr s ↦ let same = eqb-true (b + 1) a s in record { neighbours = omega (arith, same); known = omega (arith, la, lb); charge = c }
-    ]
+kind-of-two layers a b charge la lb apart c = record { order = omega (arith, apart); known = omega (arith, la, lb); charge = c }
 
 keeps-board : (d : Draft) (ws : List (List ℕ)) → IsDraft d → All IsWord ws → BreaksNone d form.Board ws → IsDraft (after_form d form.Board ws)
 unfolding after_form
@@ -60,14 +57,15 @@ keeps-board d ws k w h =
       net_names = k.net_names;
       tables = k.tables;
       kinds = k.kinds;
+      inners = k.inners;
       nets = k.nets;
-      blocks = blocks-none _ _ _ empty.0;
-      pins = pins-none _ _ _ _ empty.1;
+      blocks = blocks-none _ _ _ _ empty.0 empty.1.0;
+      pins = pins-none _ _ _ _ empty.1.1;
       empty = λ e. absurd (cc);
       heading = λ _. record {
         name = name-at ws 2 5 w (word-count h) (omega arith) (is-short-title d (word ws 2) s.1.0);
-        width = side-in (number (word ws 3)) (in-range d 1 1048576 (word ws 3) r.1.1.0);
-        height = side-in (number (word ws 4)) (in-range d 1 1048576 (word ws 4) r.1.1.1.0);
+        width = side-in (number (word ws 3)) (in-range d 1 8388608 (word ws 3) r.1.1.0);
+        height = side-in (number (word ws 4)) (in-range d 1 8388608 (word ws 4) r.1.1.1.0);
       };
       complete = λ e. absurd (cc);
     }
@@ -86,8 +84,9 @@ keeps-layer d ws k w h =
       net_names = k.net_names;
       tables = k.tables;
       kinds = kinds-grow _ _ _ _ more k.kinds;
+      inners = k.inners;
       nets = k.nets;
-      blocks = blocks-grow _ _ _ _ more k.blocks;
+      blocks = blocks-grow _ _ _ _ _ more k.blocks;
       pins = pins-grow _ _ _ _ _ _ (omega (arith, more)) (omega arith) k.pins;
       empty = k.empty;
       heading = k.heading;
@@ -107,6 +106,7 @@ keeps-class d ws k w h =
       net_names = k.net_names;
       tables = k.tables;
       kinds = k.kinds;
+      inners = k.inners;
       nets = nets-grow _ _ _ _ (length_push d.classes (word ws 1)) k.nets;
       blocks = k.blocks;
       pins = k.pins;
@@ -124,8 +124,29 @@ keeps-rule d ws k w h =
       classes = k.classes;
       kind_names = k.kind_names;
       net_names = k.net_names;
-      tables = rules-push _ _ _ k.tables (record { half = measure-in (number (word ws 3)) (rule-half d ws h); gap = measure-in (number (word ws 4)) (rule-gap d ws h) });
+      tables = rules-push _ _ _ _ k.tables (record { half = measure-in (number (word ws 3)) (rule-half d ws h); gap = measure-in (number (word ws 4)) (rule-gap d ws h) });
       kinds = k.kinds;
+      inners = k.inners;
+      nets = k.nets;
+      blocks = k.blocks;
+      pins = k.pins;
+      empty = k.empty;
+      heading = k.heading;
+      complete = λ e. absurd (cc);
+    }
+
+keeps-clear : (d : Draft) (ws : List (List ℕ)) → IsDraft d → All IsWord ws → BreaksNone d form.Clear ws → IsDraft (after_form d form.Clear ws)
+unfolding after_form
+keeps-clear d ws k w h =
+    let stage : d.stage ≡ Parts = stands h in
+    record {
+      layers = k.layers;
+      classes = k.classes;
+      kind_names = k.kind_names;
+      net_names = k.net_names;
+      tables = clears-push _ _ _ _ k.tables (measure-in (number (word ws 4)) (clear-gap d ws h));
+      kinds = k.kinds;
+      inners = k.inners;
       nets = k.nets;
       blocks = k.blocks;
       pins = k.pins;
@@ -141,7 +162,7 @@ keeps-kind d ws k w h =
     let s = each-place d form.ViaKind ws BadWord h.spelled in
     let u = each-place d form.ViaKind ws UnknownName h.known in
     let room = ltb-false 8 (length d.kind_names + 1) (whole-line d form.ViaKind ws TooMany h.few) in
-    let beside = not-false (are_neighbours (layer_of d (word ws 2)) (layer_of d (word ws 3))) (whole-line d form.ViaKind ws BadRect h.corners) in
+    let apart = eqb-false (layer_of d (word ws 2)) (layer_of d (word ws 3)) (whole-line d form.ViaKind ws BadRect h.corners) in
     let one = number-in-range d.layers (word ws 2) (is-known d sort.Layer (word ws 2) u.1.0) in
     let other = number-in-range d.layers (word ws 3) (is-known d sort.Layer (word ws 3) u.1.1.0) in
     record {
@@ -151,7 +172,8 @@ keeps-kind d ws k w h =
       net_names = k.net_names;
       tables = k.tables;
       kinds = kinds-push _ _ _ _ _ (length_push d.kind_names (word ws 1)) k.kinds
-          (kind-of-neighbours (length d.layers) (layer_of d (word ws 2)) (layer_of d (word ws 3)) (number (word ws 4)) one other beside (kind-charge d ws h).1);
+          (kind-of-two (length d.layers) (layer_of d (word ws 2)) (layer_of d (word ws 3)) (number (word ws 4)) one other apart (kind-charge d ws h).1);
+      inners = inners-grow _ _ _ k.inners;
       nets = k.nets;
       blocks = k.blocks;
       pins = k.pins;
@@ -169,8 +191,37 @@ keeps-pad d ws k w h =
       classes = k.classes;
       kind_names = k.kind_names;
       net_names = k.net_names;
-      tables = pads-push _ _ _ k.tables (measure-in (number (word ws 3)) (pad-half d ws h));
+      tables = pads-push _ _ _ _ k.tables (measure-in (number (word ws 3)) (pad-half d ws h));
       kinds = k.kinds;
+      inners = k.inners;
+      nets = k.nets;
+      blocks = k.blocks;
+      pins = k.pins;
+      empty = k.empty;
+      heading = k.heading;
+      complete = λ e. absurd (cc);
+    }
+
+keeps-inner : (d : Draft) (ws : List (List ℕ)) → IsDraft d → All IsWord ws → BreaksNone d form.Inner ws → IsDraft (after_form d form.Inner ws)
+unfolding after_form fails_whole
+keeps-inner d ws k w h =
+    let stage : d.stage ≡ Parts = stands h in
+    let u = each-place d form.Inner ws UnknownName h.known in
+    let known = number-in-range d.kind_names (word ws 1) (is-known d sort.Kind (word ws 1) u.0) in
+    let n = kind_of d (word ws 1) in
+    let same = k.kinds.even in
+    record {
+      layers = k.layers;
+      classes = k.classes;
+      kind_names = k.kind_names;
+      net_names = k.net_names;
+      tables = k.tables;
+      kinds = k.kinds;
+      inners = All-push (IsInnerOf d.kinds) d.inners _ k.inners (record {
+        known = omega (arith, known, same);
+        deep = eqb-false (nth_kind d.kinds n).last.0 ((nth_kind d.kinds n).first.0 + 1) (whole-line d form.Inner ws BadRect h.corners);
+        half = measure-in (number (word ws 3)) (inner-half d ws h);
+      });
       nets = k.nets;
       blocks = k.blocks;
       pins = k.pins;
@@ -184,7 +235,7 @@ unfolding after_form fails_whole
 keeps-block d ws k w h =
     let stage : d.stage ≡ Parts = stands h in
     let u = each-place d form.Block ws UnknownName h.known in
-    let room = ltb-false 8192 (length d.blocks + 1) (whole-line d form.Block ws TooMany h.few) in
+    let room = ltb-false 8192 (length d.blocks + length d.keepouts + 1) (whole-line d form.Block ws TooMany h.few) in
     record {
       layers = k.layers;
       classes = k.classes;
@@ -192,10 +243,36 @@ keeps-block d ws k w h =
       net_names = k.net_names;
       tables = k.tables;
       kinds = k.kinds;
+      inners = k.inners;
       nets = k.nets;
-      blocks = blocks-push _ _ _ _ k.blocks (record {
+      blocks = blocks-push _ _ _ _ _ k.blocks (record {
         layer = number-in-range d.layers (word ws 1) (is-known d sort.Layer (word ws 1) u.0);
-        area = area-on-board d ws (block-corners d ws h) (whole-line d form.Block ws BadRect h.corners);
+        area = area-on-board d ws 2 (block-corners d ws h) (whole-line d form.Block ws BadRect h.corners);
+      }) room;
+      pins = k.pins;
+      empty = λ e. absurd (cc);
+      heading = k.heading;
+      complete = λ e. absurd (cc);
+    }
+
+keeps-keepout : (d : Draft) (ws : List (List ℕ)) → IsDraft d → All IsWord ws → BreaksNone d form.Keepout ws → IsDraft (after_form d form.Keepout ws)
+unfolding after_form fails_whole
+keeps-keepout d ws k w h =
+    let stage : d.stage ≡ Parts = stands h in
+    let u = each-place d form.Keepout ws UnknownName h.known in
+    let room = ltb-false 8192 (length d.blocks + length d.keepouts + 1) (whole-line d form.Keepout ws TooMany h.few) in
+    record {
+      layers = k.layers;
+      classes = k.classes;
+      kind_names = k.kind_names;
+      net_names = k.net_names;
+      tables = k.tables;
+      kinds = k.kinds;
+      inners = k.inners;
+      nets = k.nets;
+      blocks = keepouts-push _ _ _ _ _ k.blocks (record {
+        layer = number-in-range d.layers (word ws 2) (is-known d sort.Layer (word ws 2) u.1.0);
+        area = area-on-board d ws 3 (keepout-corners d ws h) (whole-line d form.Keepout ws BadRect h.corners);
       }) room;
       pins = k.pins;
       empty = λ e. absurd (cc);
@@ -218,6 +295,7 @@ keeps-net d ws k w h =
       net_names = names-push 16384 d.net_names (word ws 1) k.net_names (name-at ws 1 3 w (word-count h) (omega arith) (is-short d sort.Net (word ws 1) s.0)) (net-fresh d ws h) room;
       tables = k.tables;
       kinds = k.kinds;
+      inners = k.inners;
       nets = nets-push _ _ _ _ _ more k.nets (number-in-range d.classes (word ws 2) (is-known d sort.Class (word ws 2) u.1.0));
       blocks = k.blocks;
       pins = pins-grow _ _ _ _ _ _ (omega arith) (omega (arith, more)) k.pins;
@@ -241,11 +319,12 @@ keeps-pin d ws k w h =
       net_names = k.net_names;
       tables = k.tables;
       kinds = k.kinds;
+      inners = k.inners;
       nets = k.nets;
       blocks = k.blocks;
       pins = pins-push _ _ _ _ _ k.pins (record {
         net = number-in-range d.net_names (word ws 1) (is-known d sort.Net (word ws 1) u.0);
-        area = area-on-board d ws (pin-corners d ws h) (whole-line d form.Pin ws BadRect h.corners);
+        area = area-on-board d ws 2 (pin-corners d ws h) (whole-line d form.Pin ws BadRect h.corners);
         order = omega arith;
         layer = omega (arith, one, other);
       }) room;
@@ -266,6 +345,7 @@ keeps-end d ws k h =
       net_names = k.net_names;
       tables = k.tables;
       kinds = k.kinds;
+      inners = k.inners;
       nets = k.nets;
       blocks = k.blocks;
       pins = k.pins;
@@ -286,6 +366,7 @@ keeps-command d (Some c) k =
       net_names = k.net_names;
       tables = k.tables;
       kinds = k.kinds;
+      inners = k.inners;
       nets = k.nets;
       blocks = k.blocks;
       pins = k.pins;
@@ -300,9 +381,12 @@ keeps-form d form.Board ws k w h = keeps-board d ws k w h
 keeps-form d form.Layer ws k w h = keeps-layer d ws k w h
 keeps-form d form.Class ws k w h = keeps-class d ws k w h
 keeps-form d form.Rule ws k w h = keeps-rule d ws k w h
+keeps-form d form.Clear ws k w h = keeps-clear d ws k w h
 keeps-form d form.ViaKind ws k w h = keeps-kind d ws k w h
 keeps-form d form.Pad ws k w h = keeps-pad d ws k w h
+keeps-form d form.Inner ws k w h = keeps-inner d ws k w h
 keeps-form d form.Block ws k w h = keeps-block d ws k w h
+keeps-form d form.Keepout ws k w h = keeps-keepout d ws k w h
 keeps-form d form.Net ws k w h = keeps-net d ws k w h
 keeps-form d form.Pin ws k w h = keeps-pin d ws k w h
 keeps-form d form.End ws k w h = keeps-end d ws k h

@@ -1,5 +1,5 @@
 -- A loop that counts up, against what it has left.
-use Rattle.std.proofs.Common.{◌≡◌, ℕ, ◌+◌, ◌-◌, ◌<◌, suc, Bool, true, List, [], ◌∷◌, ◌++◌, Option, Some, None, refl, sym, ap, ◌∙◌, arith, append_assoc}
+use Rattle.std.proofs.Common.{◌≡◌, ℕ, ◌+◌, ◌-◌, ◌<◌, suc, Bool, true, List, [], ◌∷◌, ◌++◌, map, Option, Some, None, refl, sym, ap, ◌∙◌, arith, append_assoc}
 use Rattle.std.specs.List.{range_with_len, list_all, filter_map, flat_map}
 
 range-next : (i n : ℕ) → i < n → range_with_len i (n - i) ≡ i ∷ range_with_len (i + 1) (n - (i + 1))
@@ -19,6 +19,10 @@ filter_map-none f i n h e = rw (range-next i n h, e) refl
 pub flat_map-next : {T : Type 0} (f : ℕ → List T) (i n : ℕ) (front : List T) → i < n
     → (front ++ f i) ++ flat_map f (range_with_len (i + 1) (n - (i + 1))) ≡ front ++ flat_map f (range_with_len i (n - i))
 flat_map-next f i n front h = rw (range-next i n h, append_assoc) refl
+
+pub map-next : {T : Type 0} (f : ℕ → T) (i n : ℕ) (front : List T) → i < n
+    → (front ++ f i ∷ []) ++ map f (range_with_len (i + 1) (n - (i + 1))) ≡ front ++ map f (range_with_len i (n - i))
+map-next f i n front h = rw (range-next i n h, append_assoc) refl
 
 -- a row to which a value was pushed, and one to which none was
 pub row-given : {T : Type 0} (f : ℕ → Option T) (i n : ℕ) (front new whole : List T) (v : T) → new ≡ front ++ v ∷ [] → i < n → Some v ≡ f i

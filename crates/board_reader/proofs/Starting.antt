@@ -14,12 +14,13 @@ empty-draft = record {
   classes = no-names 4;
   kind_names = no-names 8;
   net_names = no-names 16384;
-  tables = record { rules = All-nil _; pads = All-nil _ };
+  tables = record { rules = All-nil _; clears = All-nil _; pads = All-nil _ };
   kinds = record { even = refl; each = All-nil _ };
+  inners = All-nil _;
   nets = record { even = refl; each = All-nil _ };
-  blocks = record { few = omega arith; each = All-nil _ };
+  blocks = record { few = omega arith; each = All-nil _; each_keepout = All-nil _ };
   pins = record { few = omega arith; each = All-nil _ };
-  empty = λ _. (refl, refl);
+  empty = λ _. (refl, (refl, refl));
   heading = λ n. absurd (n refl);
   complete = λ e. absurd (cc);
 }

@@ -1,6 +1,6 @@
 -- What a line says that breaks no rule.
 use Rattle.std.proofs.Common.{◌≡◌, ℕ, ◌+◌, ◌≤◌, Bool, true, false, List, [], ◌∷◌, length, refl, sym}
-use Rattle.std.specs.Prelude.{◌||◌, nat_lt}
+use Rattle.std.specs.Prelude.{◌||◌, ◌==◌, not, nat_lt}
 use Rattle.std.proofs.lemmas.Bool.{ltb-false, not-false, eqb-true, false≢true}
 use Rattle.board_reader.specs.declared.drafts.Draft.{Draft}
 use Rattle.board_reader.specs.declared.forms.Form.{Form}
@@ -11,7 +11,7 @@ use Rattle.board_reader.specs.declared.forms.Stage.{Stage}
 use Rattle.board_reader.specs.declared.forms.Stage.TheVariants.{Start, Parts, Commands}
 use Rattle.board_reader.specs.declared.refusals.RefusalKind.{RefusalKind}
 use Rattle.board_reader.specs.declared.refusals.RefusalKind.TheVariants.{BadWord, OutOfRange, UnknownName, TwiceNamed, WrongPlace}
-use Rattle.board_reader.specs.Checks.{breaks, fails, some_fails, fails_whole, names_of}
+use Rattle.board_reader.specs.Checks.{breaks, fails, some_fails, fails_whole, is_too_new, names_of}
 use Rattle.board_reader.specs.Forms.{places, stage_of, is_stage}
 use Rattle.board_reader.specs.Lines.{word}
 use Rattle.board_reader.specs.Names.{is_in}
@@ -92,4 +92,6 @@ stands {d} {f} {ws} h = same-stage (stage_of f) d.stage (not-false (is_stage (st
 -- it has the words of its form
 pub word-count : {d : Draft} {f : Form} {ws : List (List ℕ)} → BreaksNone d f ws → length ws ≡ length (places f) + 1
 unfolding fails_whole
-word-count {d} {f} {ws} h = eqb-true (length ws) (length (places f) + 1) (not-false _ (whole-line d f ws BadWord h.spelled))
+word-count {d} {f} {ws} h =
+    let same = or-left (not (length ws == length (places f) + 1)) (is_too_new d f) (whole-line d f ws BadWord h.spelled) in
+    eqb-true (length ws) (length (places f) + 1) (not-false _ same)

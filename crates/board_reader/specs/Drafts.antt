@@ -1,17 +1,20 @@
 -- What the lines of a text say, one after the other.
-use Rattle.std.specs.Prelude.{ℕ, pos, min, max, List, [], ◌∷◌, ◌++◌, length, Option, Some, None}
+use Rattle.std.specs.Prelude.{ℕ, ◌+◌, pos, min, max, Bool, List, [], ◌∷◌, ◌++◌, length, Option, Some, None, codes, slice_index_or}
+use Rattle.std.specs.Str.{bytes_eq}
 use Rattle.geo_rect.specs.declared.ids.NetId.{NetId}
 use Rattle.geo_rect.specs.declared.shapes.Rect.{Rect}
 use Rattle.geo_rect.specs.Plane.{rect_of}
 use Rattle.board_model.specs.declared.commands.Command.{Command}
 use Rattle.board_model.specs.declared.commands.Command.TheVariants as command
 use Rattle.board_model.specs.declared.parts.BoardParts.{BoardParts}
+use Rattle.board_model.specs.declared.parts.ViaKind.{ViaKind}
 use Rattle.board_reader.specs.declared.drafts.Draft.{Draft}
 use Rattle.board_reader.specs.declared.forms.Form.{Form}
 use Rattle.board_reader.specs.declared.forms.Form.TheVariants as form
 use Rattle.board_reader.specs.declared.forms.Stage.TheVariants.{Start, Parts, Commands}
 use Rattle.board_reader.specs.declared.finishing.NameLists.{NameLists}
 use Rattle.board_reader.specs.Corners.{span}
+use Rattle.board_reader.specs.Gaps.{all_gaps}
 use Rattle.board_reader.specs.Lines.{word}
 use Rattle.board_reader.specs.Names.{number_in}
 use Rattle.board_reader.specs.Numbers.{number}
@@ -25,10 +28,13 @@ no_draft = record {
   layers = [];
   classes = [];
   rules = [];
+  clears = [];
   kind_names = [];
   kinds = [];
   pads = [];
+  inners = [];
   blocks = [];
+  keepouts = [];
   net_names = [];
   net_classes = [];
   pins = [];
@@ -48,9 +54,20 @@ kind_of d w = number_in d.kind_names w
 abbrev pub net_of : Draft → List ℕ → NetId
 net_of d w = record { 0 = number_in d.net_names w }
 
--- the rectangle of the corners that stand in the places 2 to 5
-abbrev pub area_of : List (List ℕ) → Rect
-area_of ws = rect_of (span (number (word ws 2)) (number (word ws 4))) (span (number (word ws 3)) (number (word ws 5)))
+-- the kind of a number (where there is none of that number: some kind)
+abbrev pub nth_kind : List ViaKind → ℕ → ViaKind
+nth_kind kinds n = slice_index_or kinds n (record { first = record { 0 = 0 }; last = record { 0 = 0 }; charge = 0 })
+
+-- the rectangle of the corners that stand in this place and the three after it
+abbrev pub area_at : List (List ℕ) → ℕ → Rect
+area_at ws i = rect_of (span (number (word ws i)) (number (word ws (i + 2)))) (span (number (word ws (i + 1))) (number (word ws (i + 3))))
+
+-- a keep-out is for wires, or for vias
+abbrev pub says_wires : List ℕ → Bool
+says_wires w = bytes_eq w (codes "wires")
+
+abbrev pub says_vias : List ℕ → Bool
+says_vias w = bytes_eq w (codes "vias")
 
 -- the command that a line of this form and these words gives, if it gives one
 abbrev pub command_of : Draft → Form → List (List ℕ) → Option Command
@@ -82,6 +99,14 @@ after_form d form.Rule ws = record d {
     value = record { half = pos (number (word ws 3)); gap = pos (number (word ws 4)) };
   } ∷ [];
 }
+after_form d form.Clear ws = record d {
+  clears = d.clears ++ record {
+    layer = layer_of d (word ws 1);
+    low = min (class_of d (word ws 2)) (class_of d (word ws 3));
+    high = max (class_of d (word ws 2)) (class_of d (word ws 3));
+    gap = pos (number (word ws 4));
+  } ∷ [];
+}
 after_form d form.ViaKind ws = record d {
   kind_names = d.kind_names ++ word ws 1 ∷ [];
   kinds = d.kinds ++ record {
@@ -97,7 +122,21 @@ after_form d form.Pad ws = record d {
     value = pos (number (word ws 3));
   } ∷ [];
 }
-after_form d form.Block ws = record d { blocks = d.blocks ++ record { layer = record { 0 = layer_of d (word ws 1) }; area = area_of ws } ∷ [] }
+after_form d form.Inner ws = record d {
+  inners = d.inners ++ record {
+    row = kind_of d (word ws 1);
+    column = class_of d (word ws 2);
+    value = pos (number (word ws 3));
+  } ∷ [];
+}
+after_form d form.Block ws = record d { blocks = d.blocks ++ record { layer = record { 0 = layer_of d (word ws 1) }; area = area_at ws 2 } ∷ [] }
+after_form d form.Keepout ws = record d {
+  keepouts = d.keepouts ++ record {
+    wires = says_wires (word ws 1);
+    layer = record { 0 = layer_of d (word ws 2) };
+    area = area_at ws 3;
+  } ∷ [];
+}
 after_form d form.Net ws = record d {
   net_names = d.net_names ++ word ws 1 ∷ [];
   net_classes = d.net_classes ++ record { 0 = class_of d (word ws 2) } ∷ [];
@@ -105,7 +144,7 @@ after_form d form.Net ws = record d {
 after_form d form.Pin ws = record d {
   pins = d.pins ++ record {
     net = net_of d (word ws 1);
-    area = area_of ws;
+    area = area_at ws 2;
     first = record { 0 = min (layer_of d (word ws 6)) (layer_of d (word ws 7)) };
     last = record { 0 = max (layer_of d (word ws 6)) (layer_of d (word ws 7)) };
   } ∷ [];
@@ -118,7 +157,8 @@ after_form d form.Show ws = with_command d (command_of d form.Show ws)
 after_form d form.Rules ws = with_command d (command_of d form.Rules ws)
 after_form d form.Strips ws = with_command d (command_of d form.Strips ws)
 
--- the board of what the lines say: a rule for each layer and in it each class, a pad for each kind and in it each class
+-- the board of what the lines say: a rule for each layer and in it each class, a gap for each layer and two classes, a pad
+-- for each kind and in it each class, and an inner pad for each, which is the pad where no line gives one
 unfoldable pub parts_of : Draft → BoardParts
 parts_of d = record {
   name = d.heading.name;
@@ -127,10 +167,13 @@ parts_of d = record {
   layers = d.layers;
   classes = d.classes;
   rules = table d.rules (length d.layers) (length d.classes);
+  gaps = all_gaps d.rules d.clears (length d.layers) (length d.classes);
   kind_names = d.kind_names;
   kinds = d.kinds;
   pads = table d.pads (length d.kind_names) (length d.classes);
+  inners = table (d.inners ++ d.pads) (length d.kind_names) (length d.classes);
   blocks = d.blocks;
+  keepouts = d.keepouts;
   net_names = d.net_names;
   net_classes = d.net_classes;
   pins = d.pins;

@@ -4,7 +4,7 @@ use Rattle.std.specs.Str.{bytes_eq}
 use Rattle.board_reader.specs.declared.forms.Form.{Form}
 use Rattle.board_reader.specs.declared.forms.Form.TheVariants as form
 use Rattle.board_reader.specs.declared.forms.Place.{Place}
-use Rattle.board_reader.specs.declared.forms.Place.TheVariants.{Title, NewName, KnownName, Number, Across, Up}
+use Rattle.board_reader.specs.declared.forms.Place.TheVariants.{Title, NewName, KnownName, Number, Across, Up, KeptOut}
 use Rattle.board_reader.specs.declared.forms.Sort.TheVariants as sort
 use Rattle.board_reader.specs.declared.forms.Stage.{Stage}
 use Rattle.board_reader.specs.declared.forms.Stage.TheVariants.{Start, Parts, Commands}
@@ -15,9 +15,12 @@ spelling form.Board = codes "board"
 spelling form.Layer = codes "layer"
 spelling form.Class = codes "class"
 spelling form.Rule = codes "rule"
+spelling form.Clear = codes "clear"
 spelling form.ViaKind = codes "viakind"
 spelling form.Pad = codes "pad"
+spelling form.Inner = codes "inner"
 spelling form.Block = codes "block"
+spelling form.Keepout = codes "keepout"
 spelling form.Net = codes "net"
 spelling form.Pin = codes "pin"
 spelling form.End = codes "end"
@@ -29,7 +32,7 @@ spelling form.Rules = codes "rules"
 spelling form.Strips = codes "strips"
 
 abbrev pub all_forms : List Form
-all_forms = form.Board ∷ form.Layer ∷ form.Class ∷ form.Rule ∷ form.ViaKind ∷ form.Pad ∷ form.Block ∷ form.Net ∷ form.Pin ∷ form.End ∷ form.Route ∷ form.All ∷ form.Rip ∷ form.Show ∷ form.Rules ∷ form.Strips ∷ []
+all_forms = form.Board ∷ form.Layer ∷ form.Class ∷ form.Rule ∷ form.Clear ∷ form.ViaKind ∷ form.Pad ∷ form.Inner ∷ form.Block ∷ form.Keepout ∷ form.Net ∷ form.Pin ∷ form.End ∷ form.Route ∷ form.All ∷ form.Rip ∷ form.Show ∷ form.Rules ∷ form.Strips ∷ []
 
 -- the form that a first word names
 unfoldable pub form_of : List ℕ → Option Form
@@ -41,13 +44,16 @@ measure = Number 1 65535
 
 -- what stands in the places of the words after the first
 abbrev pub places : Form → List Place
-places form.Board = Number 1 1 ∷ Title ∷ Number 1 1048576 ∷ Number 1 1048576 ∷ []
+places form.Board = Number 1 2 ∷ Title ∷ Number 1 8388608 ∷ Number 1 8388608 ∷ []
 places form.Layer = NewName sort.Layer ∷ []
 places form.Class = NewName sort.Class ∷ []
 places form.Rule = KnownName sort.Layer ∷ KnownName sort.Class ∷ measure ∷ measure ∷ []
+places form.Clear = KnownName sort.Layer ∷ KnownName sort.Class ∷ KnownName sort.Class ∷ measure ∷ []
 places form.ViaKind = NewName sort.Kind ∷ KnownName sort.Layer ∷ KnownName sort.Layer ∷ Number 0 65535 ∷ []
 places form.Pad = KnownName sort.Kind ∷ KnownName sort.Class ∷ measure ∷ []
+places form.Inner = KnownName sort.Kind ∷ KnownName sort.Class ∷ measure ∷ []
 places form.Block = KnownName sort.Layer ∷ Across ∷ Up ∷ Across ∷ Up ∷ []
+places form.Keepout = KeptOut ∷ KnownName sort.Layer ∷ Across ∷ Up ∷ Across ∷ Up ∷ []
 places form.Net = NewName sort.Net ∷ KnownName sort.Class ∷ []
 places form.Pin = KnownName sort.Net ∷ Across ∷ Up ∷ Across ∷ Up ∷ KnownName sort.Layer ∷ KnownName sort.Layer ∷ []
 places form.End = []
@@ -64,9 +70,12 @@ stage_of form.Board = Start
 stage_of form.Layer = Parts
 stage_of form.Class = Parts
 stage_of form.Rule = Parts
+stage_of form.Clear = Parts
 stage_of form.ViaKind = Parts
 stage_of form.Pad = Parts
+stage_of form.Inner = Parts
 stage_of form.Block = Parts
+stage_of form.Keepout = Parts
 stage_of form.Net = Parts
 stage_of form.Pin = Parts
 stage_of form.End = Parts

@@ -3,6 +3,7 @@ pub mod Contract
 pub mod Corners
 pub mod Drafts
 pub mod Forms
+pub mod Gaps
 pub mod Kinds
 pub mod Kept
 pub mod Law

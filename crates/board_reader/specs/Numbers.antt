@@ -24,9 +24,9 @@ number w = if is_number w then value_from 0 w else 0
 abbrev pub IsShort : List ℕ → Type 0
 IsShort w = number w < 2 ^ 31
 
--- the numbers in the places 2 to 5 are
-pub record HaveShortCorners (ws : List (List ℕ)) : Type 0 where
-  pub left : IsShort (word ws 2)
-  pub below : IsShort (word ws 3)
-  pub right : IsShort (word ws 4)
-  pub above : IsShort (word ws 5)
+-- the numbers in this place and the three after it are
+pub record HaveShortCorners (ws : List (List ℕ)) (i : ℕ) : Type 0 where
+  pub left : IsShort (word ws i)
+  pub below : IsShort (word ws (i + 1))
+  pub right : IsShort (word ws (i + 2))
+  pub above : IsShort (word ws (i + 3))

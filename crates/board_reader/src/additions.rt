@@ -2,18 +2,20 @@ ghost use Rattle.std.specs.Prelude.{◌≡◌, ◌<◌, ◌≤◌, ◌^◌, leng
 ghost use Rattle.std.specs.Str.{IsAscii};
 ghost use Rattle.board_reader.specs.declared.forms.Form.TheVariants as form;
 ghost use Rattle.board_reader.specs.Corners.{span};
-ghost use Rattle.board_reader.specs.Drafts.{after_form, area_of, command_of, net_of, with_command};
+ghost use Rattle.board_reader.specs.Drafts.{after_form, area_at, command_of, net_of, with_command};
 ghost use Rattle.board_reader.specs.Lines.{word};
 ghost use Rattle.board_reader.specs.Names.{is_in};
 ghost use Rattle.board_reader.specs.Numbers.{number, IsShort, HaveShortCorners};
 
+use crate::checks::says_wires;
 use crate::drafts::{Draft, Heading};
 use crate::forms::{Form, Stage};
+use crate::gaps::Clear;
 use crate::names::text_of;
 use crate::numbers::number;
 use crate::tables::Entry;
 use crate::words::Words;
-use board_model::{Block, Command, Pin, Rule, ViaKind};
+use board_model::{Block, Command, Keepout, Pin, Rule, ViaKind};
 use geo_rect::{ClassId, Interval, LayerId, NetId, NoMemory, Rect};
 use std::alloc::Global;
 
@@ -39,14 +41,15 @@ fn span(one: &[u8], other: &[u8]) -> Interval
     }
 }
 
-/// The rectangle of the corners in the places 2 to 5.
-fn area_of(words: &Words) -> Rect
-    requires { HaveShortCorners words.now }
-    ensures { result ≡ area_of words.now }
+/// The rectangle of the corners in the four places from this one on.
+fn area_at(words: &Words, first: usize) -> Rect
+    requires place { first ≤ 3 }
+    requires corners { HaveShortCorners words.now first }
+    ensures { result ≡ area_at words.now first }
 {
     Rect::of(
-        span(words.get(2), words.get(4)),
-        span(words.get(3), words.get(5)),
+        span(words.get(first), words.get(first + 2)),
+        span(words.get(first + 1), words.get(first + 3)),
     )
 }
 
@@ -105,6 +108,22 @@ impl Draft {
     }
 
     #[tactic(auto, unfolding(crate::specs::Drafts::after_form))]
+    pub fn add_clear(&mut self, words: &Words) -> Result<(), NoMemory>
+        requires { IsShort (word words.now 4) }
+        ensures { OnOk result (self.new ≡ after_form self.old form.Clear words.now) }
+    {
+        let one = self.classes.number(words.get(2));
+        let other = self.classes.number(words.get(3));
+        let clear = Clear {
+            layer: self.layers.number(words.get(1)),
+            low: one.min(other),
+            high: one.max(other),
+            gap: micrometres(words.get(4)),
+        };
+        self.clears.push(clear)
+    }
+
+    #[tactic(auto, unfolding(crate::specs::Drafts::after_form))]
     pub fn add_kind(&mut self, alloc: Global, words: &Words) -> Result<(), NoMemory>
         requires fresh { is_in self.old.kind_names (word words.now 1) ≡ false }
         requires room { length self.old.kind_names < 65536 }
@@ -136,15 +155,41 @@ impl Draft {
     }
 
     #[tactic(auto, unfolding(crate::specs::Drafts::after_form))]
+    pub fn add_inner(&mut self, words: &Words) -> Result<(), NoMemory>
+        requires { IsShort (word words.now 3) }
+        ensures { OnOk result (self.new ≡ after_form self.old form.Inner words.now) }
+    {
+        let entry = Entry {
+            row: self.kind_names.number(words.get(1)),
+            column: self.classes.number(words.get(2)),
+            value: micrometres(words.get(3)),
+        };
+        self.inners.push(entry)
+    }
+
+    #[tactic(auto, unfolding(crate::specs::Drafts::after_form))]
     pub fn add_block(&mut self, words: &Words) -> Result<(), NoMemory>
-        requires { HaveShortCorners words.now }
+        requires { HaveShortCorners words.now 2 }
         ensures { OnOk result (self.new ≡ after_form self.old form.Block words.now) }
     {
         let block = Block {
             layer: LayerId(self.layers.number(words.get(1))),
-            area: area_of(words),
+            area: area_at(words, 2),
         };
         self.blocks.push(block)
+    }
+
+    #[tactic(auto, unfolding(crate::specs::Drafts::after_form))]
+    pub fn add_keepout(&mut self, words: &Words) -> Result<(), NoMemory>
+        requires { HaveShortCorners words.now 3 }
+        ensures { OnOk result (self.new ≡ after_form self.old form.Keepout words.now) }
+    {
+        let keepout = Keepout {
+            wires: says_wires(words.get(1)),
+            layer: LayerId(self.layers.number(words.get(2))),
+            area: area_at(words, 3),
+        };
+        self.keepouts.push(keepout)
     }
 
     #[tactic(auto, unfolding(crate::specs::Drafts::after_form))]
@@ -167,14 +212,14 @@ impl Draft {
 
     #[tactic(auto, unfolding(crate::specs::Drafts::after_form))]
     pub fn add_pin(&mut self, words: &Words) -> Result<(), NoMemory>
-        requires { HaveShortCorners words.now }
+        requires { HaveShortCorners words.now 2 }
         ensures { OnOk result (self.new ≡ after_form self.old form.Pin words.now) }
     {
         let one = self.layers.number(words.get(6));
         let other = self.layers.number(words.get(7));
         let pin = Pin {
             net: self.net_of(words.get(1)),
-            area: area_of(words),
+            area: area_at(words, 2),
             first: LayerId(one.min(other)),
             last: LayerId(one.max(other)),
         };

@@ -1,9 +1,15 @@
 ghost use Rattle.std.specs.Prelude.{◌≡◌, ◌+◌, length};
-ghost use Rattle.board_reader.specs.Checks.{names_of, is_too_long, is_no_number, is_unknown, is_taken, is_outside, fails, some_fails, is_given, are_neighbours, is_crossed, is_bad_rect, is_one_too_many, is_complete, is_missing, fails_whole, breaks, kind_with, form_order};
-ghost use Rattle.std.specs.Prelude.{find};
+ghost use Rattle.std.specs.Prelude.{find, nat_lt, ◌≤◌, ◌==◌, ◌&&◌, ◌||◌, not};
+ghost use Rattle.board_model.specs.declared.limits.TheConstants.{MAX_BLOCKS};
+ghost use Rattle.board_reader.specs.Checks.{names_of, is_bad_word, is_no_number, is_unknown, is_taken, is_outside, fails, some_fails, is_given, has_two_layers, is_crossed, is_bad_rect, is_one_too_many, is_complete, is_missing, is_too_new, is_too_great, fails_whole, breaks, kind_with, form_order};
+ghost use Rattle.board_reader.specs.Drafts.{kind_of, nth_kind, says_wires, says_vias};
+ghost use Rattle.board_reader.specs.Forms.{places};
+ghost use Rattle.board_reader.specs.Lines.{word};
+ghost use Rattle.board_reader.specs.Numbers.{number};
 
 use crate::drafts::Draft;
 use crate::forms::{Form, Place, Sort, form_of};
+use crate::gaps::clear_at;
 use crate::lines::has_other_byte;
 use crate::names::Names;
 use crate::numbers::{is_number, number};
@@ -27,11 +33,31 @@ const ORDER: [RefusalKind; 9] = [
     RefusalKind::MissingRule,
 ];
 
-fn is_too_long(place: Place, word: &[u8]) -> bool
-    ensures { result ≡ is_too_long place word.now }
+/// Whether a word says that a keep-out is for wires.
+pub fn says_wires(word: &[u8]) -> bool
+    ensures { result ≡ says_wires word.now }
+{
+    let wires: &[u8] = b"wires";
+    word == wires
+}
+
+/// Whether a word says neither that a keep-out is for wires nor that it is for vias.
+fn says_neither(word: &[u8]) -> bool
+    ensures { result ≡ not (says_wires word.now || says_vias word.now) }
+{
+    if says_wires(word) {
+        return false;
+    }
+    let vias: &[u8] = b"vias";
+    word != vias
+}
+
+fn is_bad_word(place: Place, word: &[u8]) -> bool
+    ensures { result ≡ is_bad_word place word.now }
 {
     match place {
         Place::Title | Place::NewName(_) | Place::KnownName(_) => word.len() > MAX_NAME,
+        Place::KeptOut => says_neither(word),
         Place::Number(_, _) | Place::Across | Place::Up => false,
     }
 }
@@ -40,7 +66,7 @@ fn is_no_number(place: Place, word: &[u8]) -> bool
     ensures { result ≡ is_no_number place word.now }
 {
     match place {
-        Place::Title | Place::NewName(_) | Place::KnownName(_) => false,
+        Place::Title | Place::NewName(_) | Place::KnownName(_) | Place::KeptOut => false,
         Place::Number(_, _) | Place::Across | Place::Up => !is_number(word),
     }
 }
@@ -63,7 +89,7 @@ impl Draft {
     {
         match place {
             Place::KnownName(sort) => !self.names_of(sort).contains(word),
-            Place::Title | Place::NewName(_) => false,
+            Place::Title | Place::NewName(_) | Place::KeptOut => false,
             Place::Number(_, _) | Place::Across | Place::Up => false,
         }
     }
@@ -73,7 +99,7 @@ impl Draft {
     {
         match place {
             Place::NewName(sort) => self.names_of(sort).contains(word),
-            Place::Title | Place::KnownName(_) => false,
+            Place::Title | Place::KnownName(_) | Place::KeptOut => false,
             Place::Number(_, _) | Place::Across | Place::Up => false,
         }
     }
@@ -88,7 +114,7 @@ impl Draft {
             }
             Place::Across => number(word) > u128::from(self.heading.width),
             Place::Up => number(word) > u128::from(self.heading.height),
-            Place::Title | Place::NewName(_) | Place::KnownName(_) => false,
+            Place::Title | Place::NewName(_) | Place::KnownName(_) | Place::KeptOut => false,
         }
     }
 
@@ -98,7 +124,7 @@ impl Draft {
         ensures { result ≡ fails self.now kind place word.now }
     {
         match kind {
-            RefusalKind::BadWord => is_too_long(place, word),
+            RefusalKind::BadWord => is_bad_word(place, word),
             RefusalKind::BadNumber => is_no_number(place, word),
             RefusalKind::UnknownName => self.is_unknown(place, word),
             RefusalKind::TwiceNamed => self.is_taken(place, word),
@@ -119,7 +145,7 @@ impl Draft {
         false
     }
 
-    /// Whether the rule of the layer and class, or the pad of the kind and class, was given.
+    /// Whether a line before gave the same rule, gap, pad or inner pad.
     fn is_given(&self, form: Form, words: &Words) -> bool
         ensures { result ≡ is_given self.now form words.now }
     {
@@ -129,28 +155,64 @@ impl Draft {
                 let class = self.classes.number(words.get(2));
                 value_at(self.rules.as_slice(), layer, class).is_some()
             }
+            Form::Clear => {
+                let layer = self.layers.number(words.get(1));
+                let one = self.classes.number(words.get(2));
+                let other = self.classes.number(words.get(3));
+                clear_at(self.clears.as_slice(), layer, one, other).is_some()
+            }
             Form::Pad => {
                 let kind = self.kind_names.number(words.get(1));
                 let class = self.classes.number(words.get(2));
                 value_at(self.pads.as_slice(), kind, class).is_some()
             }
+            Form::Inner => {
+                let kind = self.kind_names.number(words.get(1));
+                let class = self.classes.number(words.get(2));
+                value_at(self.inners.as_slice(), kind, class).is_some()
+            }
             _ => false,
         }
     }
 
-    /// Whether the corners are not in order, or the layers of a kind are no neighbours.
+    /// Whether the kind that a word names joins two layers and none between them.
+    fn has_two_layers(&self, word: &[u8]) -> bool
+        ensures { result ≡ has_two_layers (nth_kind self.now.kinds (kind_of self.now word.now)) }
+    {
+        let number = self.kind_names.number(word);
+        match self.kinds.as_slice().get(number as usize) {
+            Some(kind) => u64::from(kind.last.0) == u64::from(kind.first.0) + 1,
+            None => false,
+        }
+    }
+
+    /// Whether the corners are not in order, the two layers of a kind are one, or an inner pad is of
+    /// a kind of two layers.
     fn is_bad_rect(&self, form: Form, words: &Words) -> bool
         ensures { result ≡ is_bad_rect self.now form words.now }
     {
         match form {
-            Form::Block | Form::Pin => is_crossed(words),
+            Form::Block | Form::Pin => is_crossed(words, 2),
+            Form::Keepout => is_crossed(words, 3),
             Form::ViaKind => {
                 let one = self.layers.number(words.get(2));
                 let other = self.layers.number(words.get(3));
-                !are_neighbours(one, other)
+                one == other
             }
+            Form::Inner => self.has_two_layers(words.get(1)),
             _ => false,
         }
+    }
+
+    /// Whether there are more blockages and keep-outs than the limit with one more.
+    fn is_full_of_areas(&self) -> bool
+        ensures { result ≡ nat_lt MAX_BLOCKS (length self.now.blocks + length self.now.keepouts + 1) }
+    {
+        let blocks = self.blocks.len();
+        if blocks >= MAX_BLOCKS {
+            return true;
+        }
+        self.keepouts.len() >= MAX_BLOCKS - blocks
     }
 
     /// Whether there are more than the limit with a line of this form.
@@ -163,7 +225,7 @@ impl Draft {
             Form::ViaKind => self.kind_names.len() as usize >= MAX_KINDS,
             Form::Net => self.net_names.len() as usize >= MAX_NETS,
             Form::Pin => self.pins.len() >= MAX_PINS,
-            Form::Block => self.blocks.len() >= MAX_BLOCKS,
+            Form::Block | Form::Keepout => self.is_full_of_areas(),
             Form::Route | Form::All | Form::Rip | Form::Show | Form::Rules | Form::Strips => self
                 .commands
                 .len()
@@ -197,15 +259,36 @@ impl Draft {
         }
     }
 
+    /// Whether the text's version has no such form.
+    fn is_too_new(&self, form: Form) -> bool
+        ensures { result ≡ is_too_new self.now form }
+    {
+        match form {
+            Form::Clear => self.heading.version != 2,
+            _ => false,
+        }
+    }
+
+    /// Whether the line has not the words of its form, or is of no form of the text's version.
+    fn is_misspelt(&self, form: Form, words: &Words) -> bool
+        ensures { result ≡ (not (length words.now == length (places form) + 1) || is_too_new self.now form) }
+    {
+        if words.len() != form.places().len() + 1 {
+            return true;
+        }
+        self.is_too_new(form)
+    }
+
     /// Whether the line as a whole breaks a rule of this kind.
     #[tactic(auto, unfolding(crate::specs::Checks::fails_whole))]
     fn fails_whole(&self, kind: RefusalKind, form: Form, words: &Words) -> bool
         ensures { result ≡ fails_whole self.now kind form words.now }
     {
         match kind {
-            RefusalKind::BadWord => words.len() != form.places().len() + 1,
+            RefusalKind::BadWord => self.is_misspelt(form, words),
             RefusalKind::WrongPlace => !form.stands_in(self.stage),
             RefusalKind::TwiceNamed => self.is_given(form, words),
+            RefusalKind::OutOfRange => is_too_great(form, words),
             RefusalKind::BadRect => self.is_bad_rect(form, words),
             RefusalKind::TooMany => self.is_one_too_many(form),
             RefusalKind::MissingRule => self.is_missing(form),
@@ -251,15 +334,42 @@ impl Draft {
     }
 }
 
-fn are_neighbours(one: u32, other: u32) -> bool
-    ensures { result ≡ are_neighbours one other }
+/// Whether the corners in the four places from this one on are not in order.
+fn is_crossed(words: &Words, first: usize) -> bool
+    requires { first ≤ 3 }
+    ensures { result ≡ is_crossed words.now first }
 {
-    u64::from(one) + 1 == u64::from(other) || u64::from(other) + 1 == u64::from(one)
+    if number(words.get(first + 2)) < number(words.get(first)) {
+        return true;
+    }
+    number(words.get(first + 3)) < number(words.get(first + 1))
 }
 
-/// Whether the corners in the places 2 to 5 are not in order.
-fn is_crossed(words: &Words) -> bool
-    ensures { result ≡ is_crossed words.now }
+/// Whether the sides of a board are greater than version 1 lets them be.
+fn has_great_sides(words: &Words) -> bool
+    ensures { result ≡ (nat_lt 1048576 (number (word words.now 3)) || nat_lt 1048576 (number (word words.now 4))) }
 {
-    number(words.get(2)) > number(words.get(4)) || number(words.get(3)) > number(words.get(5))
+    if number(words.get(3)) > 1_048_576 {
+        return true;
+    }
+    number(words.get(4)) > 1_048_576
+}
+
+/// Whether a board of version 1 is greater than that version lets it be.
+fn is_too_great_for_first(words: &Words) -> bool
+    ensures { result ≡ (number (word words.now 1) == 1 && (nat_lt 1048576 (number (word words.now 3)) || nat_lt 1048576 (number (word words.now 4)))) }
+{
+    if number(words.get(1)) != 1 {
+        return false;
+    }
+    has_great_sides(words)
+}
+
+fn is_too_great(form: Form, words: &Words) -> bool
+    ensures { result ≡ is_too_great form words.now }
+{
+    match form {
+        Form::Board => is_too_great_for_first(words),
+        _ => false,
+    }
 }

@@ -1,9 +1,10 @@
 ghost use Rattle.std.specs.Prelude.{◌≡◌};
 
 use crate::forms::Stage;
+use crate::gaps::Clear;
 use crate::names::Names;
 use crate::tables::Entry;
-use board_model::{Block, Command, Pin, Rule, ViaKind};
+use board_model::{Block, Command, Keepout, Pin, Rule, ViaKind};
 use geo_rect::{ClassId, List, Text};
 use std::alloc::Global;
 
@@ -26,11 +27,15 @@ pub struct Draft {
     pub classes: Names,
     /// Given for a layer and a class.
     pub rules: List<Entry<Rule>>,
+    pub clears: List<Clear>,
     pub kind_names: Names,
     pub kinds: List<ViaKind>,
     /// Half widths in micrometres, given for a kind and a class.
     pub pads: List<Entry<i32>>,
+    /// The same of the layers between the first and the last of a kind.
+    pub inners: List<Entry<i32>>,
     pub blocks: List<Block>,
+    pub keepouts: List<Keepout>,
     pub net_names: Names,
     pub net_classes: List<ClassId>,
     pub pins: List<Pin>,
@@ -55,10 +60,13 @@ impl Draft {
             layers: Names::new(alloc),
             classes: Names::new(alloc),
             rules: List::new(alloc),
+            clears: List::new(alloc),
             kind_names: Names::new(alloc),
             kinds: List::new(alloc),
             pads: List::new(alloc),
+            inners: List::new(alloc),
             blocks: List::new(alloc),
+            keepouts: List::new(alloc),
             net_names: Names::new(alloc),
             net_classes: List::new(alloc),
             pins: List::new(alloc),

@@ -1,8 +1,9 @@
-ghost use Rattle.std.specs.Prelude.{◌≡◌, ◌<◌, ◌^◌, pos, [], length, All, IfOk};
+ghost use Rattle.std.specs.Prelude.{◌≡◌, ◌<◌, ◌^◌, pos, [], ◌++◌, length, All, IfOk};
 ghost use Rattle.board_model.specs.Rules.{IsName};
 ghost use Rattle.board_reader.specs.declared.forms.Stage.TheVariants.{Commands};
 ghost use Rattle.board_reader.specs.Contract.{told_by, TellsReading};
 ghost use Rattle.board_reader.specs.Drafts.{parts_of, names_of_draft};
+ghost use Rattle.board_reader.specs.Gaps.{all_gaps};
 ghost use Rattle.board_reader.specs.Kept.{IsDraft};
 ghost use Rattle.board_reader.specs.Reading.{told, reading_from};
 ghost use Rattle.board_reader.specs.Tables.{table};
@@ -30,7 +31,9 @@ pub struct NameLists {
 pub struct Laid {
     names: NameLists,
     rules: List<Rule>,
+    gaps: List<i32>,
     pads: List<i32>,
+    inners: List<i32>,
 }
 
 /// The lists of a board, which are not tried yet, and the commands.
@@ -86,17 +89,39 @@ impl Draft {
         lay_out(alloc, self.pads.as_slice(), kinds, classes)
     }
 
+    /// The inner pads by kinds of vias, and in each kind by classes: that of a line `inner`, or else
+    /// the pad.
+    fn inner_table(&self, alloc: Global) -> Result<List<i32>, NoMemory>
+        ensures { IfOk result (λ p. p ≡ table (self.now.inners ++ self.now.pads) (length self.now.kind_names) (length self.now.classes)) }
+    {
+        let kinds = self.kind_names.len();
+        let classes = self.classes.len();
+        let mut halves = List::from_slice(alloc, self.inners.as_slice())?;
+        halves.extend_from_slice(self.pads.as_slice())?;
+        lay_out(alloc, halves.as_slice(), kinds, classes)
+    }
+
     /// The names and the tables.
     fn laid_out(&self, alloc: Global) -> Result<Laid, NoMemory>
         requires draft { IsDraft self.now }
         ensures names { IfOk result (λ l. l.names ≡ names_of_draft self.now) }
         ensures rules { IfOk result (λ l. l.rules ≡ table self.now.rules (length self.now.layers) (length self.now.classes)) }
+        ensures gaps { IfOk result (λ l. l.gaps ≡ all_gaps self.now.rules self.now.clears (length self.now.layers) (length self.now.classes)) }
         ensures pads { IfOk result (λ l. l.pads ≡ table self.now.pads (length self.now.kind_names) (length self.now.classes)) }
+        ensures inners { IfOk result (λ l. l.inners ≡ table (self.now.inners ++ self.now.pads) (length self.now.kind_names) (length self.now.classes)) }
     {
         let names = self.names(alloc)?;
         let rules = self.rule_table(alloc)?;
+        let gaps = self.all_gaps(alloc, self.layers.len(), self.classes.len())?;
         let pads = self.pad_table(alloc)?;
-        Ok(Laid { names, rules, pads })
+        let inners = self.inner_table(alloc)?;
+        Ok(Laid {
+            names,
+            rules,
+            gaps,
+            pads,
+            inners,
+        })
     }
 
     /// The lists of the board, with the names and the tables, and the commands.
@@ -105,7 +130,9 @@ impl Draft {
         requires ended { self.stage ≡ Commands }
         requires names { laid.names ≡ names_of_draft self }
         requires rules { laid.rules ≡ table self.rules (length self.layers) (length self.classes) }
+        requires gaps { laid.gaps ≡ all_gaps self.rules self.clears (length self.layers) (length self.classes) }
         requires pads { laid.pads ≡ table self.pads (length self.kind_names) (length self.classes) }
+        requires inners { laid.inners ≡ table (self.inners ++ self.pads) (length self.kind_names) (length self.classes) }
         ensures parts { result.parts ≡ parts_of self }
         ensures commands { result.commands ≡ self.commands }
     {
@@ -120,10 +147,13 @@ impl Draft {
             layers: names.layers,
             classes: names.classes,
             rules: laid.rules,
+            gaps: laid.gaps,
             kind_names: names.kinds,
             kinds: self.kinds,
             pads: laid.pads,
+            inners: laid.inners,
             blocks: self.blocks,
+            keepouts: self.keepouts,
             net_names: names.nets,
             net_classes: self.net_classes,
             pins: self.pins,

@@ -1,8 +1,6 @@
 ghost use Rattle.std.specs.Prelude.{◌≡◌};
 ghost use Rattle.board_reader.specs.Forms.{spelling, places, form_of, stage_of, is_stage};
 
-use board_model::{MAX_CHARGE, MAX_MEASURE, MAX_SIDE};
-
 /// What a name names. Each sort has names of its own.
 #[derive(Clone, Copy)]
 pub enum Sort {
@@ -27,6 +25,8 @@ pub enum Place {
     Across,
     /// A number from 0 to the height of the board.
     Up,
+    /// What a keep-out keeps out: `wires` or `vias`.
+    KeptOut,
 }
 
 /// A form of a line, which its first word names.
@@ -36,9 +36,12 @@ pub enum Form {
     Layer,
     Class,
     Rule,
+    Clear,
     ViaKind,
     Pad,
+    Inner,
     Block,
+    Keepout,
     Net,
     Pin,
     End,
@@ -61,14 +64,17 @@ pub enum Stage {
     Commands,
 }
 
-const FORMS: [Form; 16] = [
+const FORMS: [Form; 19] = [
     Form::Board,
     Form::Layer,
     Form::Class,
     Form::Rule,
+    Form::Clear,
     Form::ViaKind,
     Form::Pad,
+    Form::Inner,
     Form::Block,
+    Form::Keepout,
     Form::Net,
     Form::Pin,
     Form::End,
@@ -81,10 +87,10 @@ const FORMS: [Form; 16] = [
 ];
 
 static BOARD: [Place; 4] = [
-    Place::Number(1, 1),
+    Place::Number(1, 2),
     Place::Title,
-    Place::Number(1, 1_048_576),
-    Place::Number(1, 1_048_576),
+    Place::Number(1, 8_388_608),
+    Place::Number(1, 8_388_608),
 ];
 
 static LAYER: [Place; 1] = [Place::NewName(Sort::Layer)];
@@ -95,6 +101,13 @@ static RULE: [Place; 4] = [
     Place::KnownName(Sort::Layer),
     Place::KnownName(Sort::Class),
     Place::Number(1, 65_535),
+    Place::Number(1, 65_535),
+];
+
+static CLEAR: [Place; 4] = [
+    Place::KnownName(Sort::Layer),
+    Place::KnownName(Sort::Class),
+    Place::KnownName(Sort::Class),
     Place::Number(1, 65_535),
 ];
 
@@ -112,6 +125,15 @@ static PAD: [Place; 3] = [
 ];
 
 static BLOCK: [Place; 5] = [
+    Place::KnownName(Sort::Layer),
+    Place::Across,
+    Place::Up,
+    Place::Across,
+    Place::Up,
+];
+
+static KEEPOUT: [Place; 6] = [
+    Place::KeptOut,
     Place::KnownName(Sort::Layer),
     Place::Across,
     Place::Up,
@@ -147,9 +169,12 @@ impl Form {
             Form::Layer => b"layer",
             Form::Class => b"class",
             Form::Rule => b"rule",
+            Form::Clear => b"clear",
             Form::ViaKind => b"viakind",
             Form::Pad => b"pad",
+            Form::Inner => b"inner",
             Form::Block => b"block",
+            Form::Keepout => b"keepout",
             Form::Net => b"net",
             Form::Pin => b"pin",
             Form::End => b"end",
@@ -171,9 +196,11 @@ impl Form {
             Form::Layer => &LAYER,
             Form::Class => &CLASS,
             Form::Rule => &RULE,
+            Form::Clear => &CLEAR,
             Form::ViaKind => &VIA_KIND,
-            Form::Pad => &PAD,
+            Form::Pad | Form::Inner => &PAD,
             Form::Block => &BLOCK,
+            Form::Keepout => &KEEPOUT,
             Form::Net => &NET,
             Form::Pin => &PIN,
             Form::End | Form::All | Form::Rules => &ALONE,
@@ -191,9 +218,12 @@ impl Form {
             Form::Layer
             | Form::Class
             | Form::Rule
+            | Form::Clear
             | Form::ViaKind
             | Form::Pad
+            | Form::Inner
             | Form::Block
+            | Form::Keepout
             | Form::Net
             | Form::Pin
             | Form::End => Stage::Parts,

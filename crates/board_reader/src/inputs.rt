@@ -2,7 +2,7 @@ use board_model::{Board, Command};
 use geo_rect::List;
 
 /// What a board text says.
-#[derive(Debug, Drop)]
+#[derive(Drop)]
 pub struct Input {
     pub board: Board,
     /// The commands, in the order of the text.

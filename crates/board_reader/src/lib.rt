@@ -6,6 +6,7 @@ mod checks;
 mod drafts;
 mod finishing;
 mod forms;
+mod gaps;
 mod inputs;
 mod laws;
 mod lines;

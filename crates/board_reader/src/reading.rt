@@ -57,9 +57,12 @@ impl Draft {
             Form::Layer => self.add_layer(alloc, words),
             Form::Class => self.add_class(alloc, words),
             Form::Rule => self.add_rule(words),
+            Form::Clear => self.add_clear(words),
             Form::ViaKind => self.add_kind(alloc, words),
             Form::Pad => self.add_pad(words),
+            Form::Inner => self.add_inner(words),
             Form::Block => self.add_block(words),
+            Form::Keepout => self.add_keepout(words),
             Form::Net => self.add_net(alloc, words),
             Form::Pin => self.add_pin(words),
             Form::End => {

@@ -9,15 +9,16 @@ use geo_rect::NoMemory;
 pub enum RefusalKind {
     /// The line is no comment and has a byte that is neither a blank nor printable ASCII.
     NotAscii = 1,
-    /// The first word is no form, the number of words is not the form's, or a name is too long.
+    /// The first word is no form of the text's version, the number of words is not the form's, a name
+    /// is too long, or a keep-out is neither for wires nor for vias.
     BadWord = 2,
     /// A word that must be a number is none.
     BadNumber = 3,
-    /// A number is outside its range, or the version is not 1.
+    /// A number is outside its range, or the version is neither 1 nor 2.
     OutOfRange = 4,
     /// No line before gave the name.
     UnknownName = 5,
-    /// A line before gave the name, the rule or the pad.
+    /// A line before gave the name, the rule, the gap of the two classes, the pad or the inner pad.
     TwiceNamed = 6,
     /// The form does not stand here.
     WrongPlace = 7,
@@ -25,9 +26,11 @@ pub enum RefusalKind {
     MissingRule = 8,
     /// The text has no line `end`.
     NoEnd = 9,
-    /// There are more layers, classes, kinds, nets, pins, blockages or commands than the limit.
+    /// There are more layers, classes, kinds, nets, pins or commands than the limit, or more blockages
+    /// and keep-outs together.
     TooMany = 10,
-    /// The corners are not in order, or the layers of a kind of via are no neighbours.
+    /// The corners are not in order, the two layers of a kind of via are one, or an inner pad is of a
+    /// kind of two layers.
     BadRect = 11,
     /// A line of a reply text. No board text is refused so.
     BadReply = 13,
@@ -50,7 +53,7 @@ pub struct Refusal {
 }
 
 /// Why a board text was not read.
-#[derive(Clone, Copy, Debug, PartialEq, Eq)]
+#[derive(Clone, Copy)]
 pub enum ReadInput {
     Refused(Refusal),
     NoMemory,

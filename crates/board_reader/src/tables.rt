@@ -5,7 +5,7 @@ use geo_rect::{List, NoMemory};
 use std::alloc::Global;
 
 /// A value that is given for a row and a column.
-#[derive(Drop)]
+#[derive(Clone, Copy)]
 pub struct Entry<T> {
     pub row: u32,
     pub column: u32,

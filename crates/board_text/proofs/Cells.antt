@@ -1,19 +1,99 @@
--- A table that is given cell by cell, row after row, is the list of its values.
-use Rattle.std.proofs.Common.{◌≡◌, ◌⊎◌, ℕ, ◌+◌, ◌*◌, ◌<◌, ◌≤◌, suc, zero, true, false, Bool, List, [], ◌∷◌, ◌++◌, Option, Some, None, length, get_or, drop, map, refl, sym, ap, ◌∙◌, arith, inl, inr, subst}
-use Rattle.std.specs.Prelude.{◌==◌, ◌&&◌, is_some}
-use Rattle.std.specs.List.{range_with_len, flat_map, filter_map, list_all, cons_option}
-use Rattle.std.proofs.Math.Seq.{drop-cons}
-use Rattle.std.proofs.Math.Nat.{mul-le-mul_right}
+-- Tables that are given cell by cell, where a line gives the value of its cell, or the cell has no line.
+use Rattle.std.proofs.Common.{◌≡◌, ◌≢◌, ◌⊎◌, ℕ, ◌+◌, ◌<◌, ◌≤◌, suc, zero, true, false, Bool, List, [], ◌∷◌, ◌++◌, Option, Some, None, refl, sym, ap, ◌∙◌, arith, inl, inr, subst}
+use Rattle.std.specs.Prelude.{◌==◌, ◌&&◌, if◌then◌else◌}
+use Rattle.std.specs.List.{range_with_len, flat_map}
 use Rattle.std.proofs.lemmas.Bool.{cases_Bool, cases_eq, cases_lt, cond-true, cond-false, and_from, and_left, and_right, eq-eqb, ne_eqb}
-use Rattle.std.proofs.lemmas.List.{drop_all}
 use Rattle.board_reader.specs.declared.drafts.Draft.{Draft}
 use Rattle.board_reader.specs.declared.tables.Entry.{Entry}
-use Rattle.board_reader.specs.Tables.{value_at, is_full_row, is_full, row_of, table}
+use Rattle.board_reader.specs.Tables.{value_at}
 use Rattle.board_text.proofs.Telling.{Tells, tells-none, tells-more}
 
+-- what entries say of a cell, and the entry of a cell and a value
+pub record IsTable {K E T : Type 0} (look : List E → K → Option T) (entry : K → T → E) : Type 0 where
+  pub none : (k : K) → look [] k ≡ None
+  pub here : (es : List E) (k : K) (x : T) → look es k ≡ None → look (es ++ entry k x ∷ []) k ≡ Some x
+  pub other : (es : List E) (j k : K) (x : T) → j ≢ k → look (es ++ entry j x ∷ []) k ≡ look es k
+
+-- the entries with one for the cell, if it has a value
+abbrev pub with_value : {K E T : Type 0} → (K → T → E) → List E → K → Option T → List E
+with_value entry es k None = es
+with_value entry es k (Some x) = es ++ entry k x ∷ []
+
+-- the cells that are done are given as they should be, and no other cell is given
+pub record AreGiven {K E T : Type 0} (look : List E → K → Option T) (v : K → Option T) (es : List E) (Done : K → Type 0) : Type 0 where
+  pub before : (k : K) → Done k → look es k ≡ v k
+  pub after : (k : K) → (Done k → ⊥) → look es k ≡ None
+
+-- a text that gives cells until these are done
+pub record Gives {K E T : Type 0} (look : List E → K → Option T) (v : K → Option T) (at : List E → Draft) (es : List E) (text : List ℕ) (Done : K → Type 0) : Type 0 where
+  pub given : List E
+  pub are : AreGiven look v given Done
+  pub tells : Tells (at es) text (at given)
+
+-- one more cell
+abbrev pub OrHere : {K : Type 0} → (K → Type 0) → K → K → Type 0
+OrHere Done j k = Done k ⊎ (k ≡ j)
+
+value-here : {K E T : Type 0} (look : List E → K → Option T) (entry : K → T → E) → IsTable look entry → (es : List E) (j : K) (o : Option T) → look es j ≡ None → look (with_value entry es j o) j ≡ o
+value-here look entry t es j None h = h
+value-here look entry t es j (Some x) h = t.here es j x h
+
+value-other : {K E T : Type 0} (look : List E → K → Option T) (entry : K → T → E) → IsTable look entry → (es : List E) (j k : K) (o : Option T) → j ≢ k → look (with_value entry es j o) k ≡ look es k
+value-other look entry t es j k None n = refl
+value-other look entry t es j k (Some x) n = t.other es j k x n
+
+pub given-more : {K E T : Type 0} (look : List E → K → Option T) (entry : K → T → E) → IsTable look entry → (v : K → Option T) (es : List E) (Done : K → Type 0) (j : K) → (Done j → ⊥) → AreGiven look v es Done → AreGiven look v (with_value entry es j (v j)) (OrHere Done j)
+given-more look entry t v es Done j new g = record {
+  before = λ k d. elim d [
+    | inl e ↦ value-other look entry t es j k (v j) (λ same. new (subst Done (sym same) e)) ∙ g.before k e
+    | inr e ↦ subst (λ x. look (with_value entry es j (v j)) x ≡ v x) (sym e) (value-here look entry t es j (v j) (g.after j new))
+  ];
+  after = λ k n. value-other look entry t es j k (v j) (λ same. n (inr (sym same))) ∙ g.after k (λ d. n (inl d));
+}
+
+-- the same cells, told otherwise
+pub given-same : {K E T : Type 0} (look : List E → K → Option T) (v : K → Option T) (es : List E) (A B : K → Type 0) → ((k : K) → A k → B k) → ((k : K) → B k → A k) → AreGiven look v es A → AreGiven look v es B
+given-same look v es A B to from g = record {
+  before = λ k d. g.before k (from k d);
+  after = λ k n. g.after k (λ d. n (to k d));
+}
+
+pub none-given : {K E T : Type 0} (look : List E → K → Option T) (entry : K → T → E) → IsTable look entry → (v : K → Option T) (Done : K → Type 0) → ((k : K) → Done k → ⊥) → AreGiven look v [] Done
+none-given look entry t v Done none = record { before = λ k d. absurd (none k d); after = λ k n. t.none k }
+
+-- a number after the other
+pub range-gives : {K E T : Type 0} (look : List E → K → Option T) (v : K → Option T) (at : List E → Draft) (text : ℕ → List ℕ) (Done : ℕ → K → Type 0) (n a end : ℕ) → a + n ≡ end
+    → ((i : ℕ) (es : List E) → a ≤ i → i < end → AreGiven look v es (Done i) → Gives look v at es (text i) (Done (suc i)))
+    → (es : List E) → AreGiven look v es (Done a) → Gives look v at es (flat_map text (range_with_len a n)) (Done end)
+range-gives look v at text Done zero a end e body es g =
+    let same : a ≡ end = omega arith in
+    record { given = es; are = subst (λ k. AreGiven look v es (Done k)) same g; tells = tells-none (at es) }
+range-gives look v at text Done (suc n) a end e body es g =
+    let one = body a es (omega arith) (omega arith) g in
+    let next : suc a ≡ a + 1 = omega arith in
+    let rest = range-gives look v at text Done n (a + 1) end (omega arith) (λ i fs l m. body i fs (omega arith) m) one.given (subst (λ k. AreGiven look v one.given (Done k)) next one.are) in
+    record { given = rest.given; are = rest.are; tells = tells-more (at es) (at one.given) (at rest.given) (text a) (flat_map text (range_with_len (a + 1) n)) one.tells rest.tells }
+
+-- a line that is there where the cell has a value of its own
+pub own-line : {K E T : Type 0} (entry : K → T → E) (at : List E → Draft) (es : List E) (k : K) (x : T) (text : List ℕ) (plain : Bool) → (plain ≡ false → Tells (at es) text (at (es ++ entry k x ∷ [])))
+    → Tells (at es) (if plain then [] else text) (at (with_value entry es k (if plain then None else Some x)))
+own-line entry at es k x text true line = tells-none (at es)
+own-line entry at es k x text false line = line refl
+
+-- a cell of rows and columns
+pub record Cell : Type 0 where
+  pub row : ℕ
+  pub column : ℕ
+
+abbrev pub cell : ℕ → ℕ → Cell
+cell r c = record { row = r; column = c }
+
 -- the value of a cell as it is given
-abbrev pub cell : {T : Type 0} → (ℕ → ℕ → T) → ℕ → ℕ → Entry T
-cell v r c = record { row = r; column = c; value = v r c }
+abbrev pub entry_at : {T : Type 0} → Cell → T → Entry T
+entry_at k x = record { row = k.row; column = k.column; value = x }
+
+abbrev pub value_in : {T : Type 0} → List (Entry T) → Cell → Option T
+value_in es k = value_at es k.row k.column
 
 found-first : {T : Type 0} (e : Entry T) (es : List (Entry T)) (r c : ℕ) → (e.row == r && e.column == c) ≡ true → value_at (e ∷ es) r c ≡ Some e.value
 unfolding value_at
@@ -23,7 +103,11 @@ found-later : {T : Type 0} (e : Entry T) (es : List (Entry T)) (r c : ℕ) → (
 unfolding value_at
 found-later e es r c h = cond-false _ _ _ h
 
-found-stays : {T : Type 0} (es fs : List (Entry T)) (r c : ℕ) (x : T) → value_at es r c ≡ Some x → value_at (es ++ fs) r c ≡ Some x
+none-at : {T : Type 0} (r c : ℕ) → value_at {T = T} [] r c ≡ None
+unfolding value_at
+none-at r c = refl
+
+pub found-stays : {T : Type 0} (es fs : List (Entry T)) (r c : ℕ) (x : T) → value_at es r c ≡ Some x → value_at (es ++ fs) r c ≡ Some x
 unfolding value_at
 found-stays [] fs r c x h = absurd (cc)
 found-stays (e ∷ es) fs r c x h =
@@ -32,7 +116,7 @@ found-stays (e ∷ es) fs r c x h =
       | inr f ↦ found-later e (es ++ fs) r c f ∙ found-stays es fs r c x (sym (found-later e es r c f) ∙ h)
     ]
 
-none-before : {T : Type 0} (es fs : List (Entry T)) (r c : ℕ) → value_at es r c ≡ None → value_at (es ++ fs) r c ≡ value_at fs r c
+pub none-before : {T : Type 0} (es fs : List (Entry T)) (r c : ℕ) → value_at es r c ≡ None → value_at (es ++ fs) r c ≡ value_at fs r c
 unfolding value_at
 none-before [] fs r c h = refl
 none-before (e ∷ es) fs r c h =
@@ -41,39 +125,37 @@ none-before (e ∷ es) fs r c h =
       | inr f ↦ found-later e (es ++ fs) r c f ∙ none-before es fs r c (sym (found-later e es r c f) ∙ h)
     ]
 
-none-at : {T : Type 0} (r c : ℕ) → value_at {T = T} [] r c ≡ None
-unfolding value_at
-none-at r c = refl
+others-stay : {T : Type 0} (es : List (Entry T)) (e : Entry T) (r c : ℕ) → (e.row == r && e.column == c) ≡ false → value_at (es ++ e ∷ []) r c ≡ value_at es r c
+others-stay [] e r c n = found-later e [] r c n
+others-stay (f ∷ es) e r c n =
+    elim (cases_Bool (f.row == r && f.column == c)) [
+      | inl t ↦ found-first f (es ++ e ∷ []) r c t ∙ sym (found-first f es r c t)
+      | inr l ↦ found-later f (es ++ e ∷ []) r c l ∙ (others-stay es e r c n ∙ sym (found-later f es r c l))
+    ]
+
+other-cell : (j k : Cell) → j ≢ k → (j.row == k.row && j.column == k.column) ≡ false
+other-cell j k n =
+    elim (cases_eq j.row k.row) [
+      | inl e ↦ and_right (j.row == k.row) (j.column == k.column) (ne_eqb j.column k.column (λ f. n (λ i. record { row = e i; column = f i })))
+      | inr e ↦ and_left (j.row == k.row) (j.column == k.column) (ne_eqb j.row k.row e)
+    ]
+
+pub are-table : {T : Type 0} → IsTable (value_in {T = T}) entry_at
+are-table = record {
+  none = λ k. none-at k.row k.column;
+  here = λ es k x none.
+      none-before es (entry_at k x ∷ []) k.row k.column none
+      ∙ found-first (entry_at k x) [] k.row k.column (and_from (k.row == k.row) (k.column == k.column) (eq-eqb k.row k.row refl) (eq-eqb k.column k.column refl));
+  other = λ es j k x n. others-stay es (entry_at j x) k.row k.column (other-cell j k n);
+}
 
 -- the first cell stands before the second
 abbrev pub IsBefore : ℕ → ℕ → ℕ → ℕ → Type 0
 IsBefore r c row column = (r < row) ⊎ ((r ≡ row) × (c < column))
 
--- the cells before this one are given, row by row, and no other
-pub record AreGiven {T : Type 0} (v : ℕ → ℕ → T) (columns : ℕ) (es : List (Entry T)) (row column : ℕ) : Type 0 where
-  pub before : (r c : ℕ) → c < columns → IsBefore r c row column → value_at es r c ≡ Some (v r c)
-  pub after : (r c : ℕ) → (IsBefore r c row column → ⊥) → value_at es r c ≡ None
-
-pub none-given : {T : Type 0} (v : ℕ → ℕ → T) (columns : ℕ) → AreGiven v columns [] 0 0
-none-given v columns = record {
-  before = λ r c inside h. elim h [ inl l ↦ absurd (omega arith) | inr e ↦ let l = e.1 in absurd (omega arith) ];
-  after = λ r c n. none-at r c;
-}
-
-cell-here : {T : Type 0} (v : ℕ → ℕ → T) (es : List (Entry T)) (r c : ℕ) → value_at es r c ≡ None → value_at (es ++ cell v r c ∷ []) r c ≡ Some (v r c)
-cell-here v es r c none =
-    none-before es (cell v r c ∷ []) r c none ∙ found-first (cell v r c) [] r c (and_from (r == r) (c == c) (eq-eqb r r refl) (eq-eqb c c refl))
-
-cell-else : {T : Type 0} (v : ℕ → ℕ → T) (es : List (Entry T)) (r c row column : ℕ) → value_at es r c ≡ None → (row == r && column == c) ≡ false → value_at (es ++ cell v row column ∷ []) r c ≡ None
-cell-else v es r c row column none other =
-    none-before es (cell v row column ∷ []) r c none ∙ (found-later (cell v row column) [] r c other ∙ none-at r c)
-
-no-cell : (r c row column : ℕ) → ((r ≡ row) × (c ≡ column) → ⊥) → (row == r && column == c) ≡ false
-no-cell r c row column n =
-    elim (cases_eq row r) [
-      | inl e ↦ and_right (row == r) (column == c) (ne_eqb column c (λ f. n (sym e, sym f)))
-      | inr e ↦ and_left (row == r) (column == c) (ne_eqb row r e)
-    ]
+-- row by row, the cells before this one
+abbrev pub IsDone : ℕ → ℕ → ℕ → Cell → Type 0
+IsDone columns row column k = (k.column < columns) × IsBefore k.row k.column row column
 
 before-or-here : (r c row column : ℕ) → IsBefore r c row (suc column) → IsBefore r c row column ⊎ ((r ≡ row) × (c ≡ column))
 before-or-here r c row column (inl l) = inl (inl l)
@@ -84,19 +166,9 @@ still-before : (r c row column : ℕ) → IsBefore r c row column → IsBefore r
 still-before r c row column (inl l) = inl l
 still-before r c row column (inr h) = let m = h.1 in inr (h.0, omega arith)
 
--- one cell more
-given-more : {T : Type 0} (v : ℕ → ℕ → T) (columns : ℕ) (es : List (Entry T)) (row column : ℕ) → column < columns → AreGiven v columns es row column → AreGiven v columns (es ++ cell v row column ∷ []) row (suc column)
-given-more v columns es row column inside g =
-    let none : value_at es row column ≡ None = g.after row column (λ b. elim b [ inl l ↦ omega arith | inr l ↦ let m = l.1 in omega arith ]) in
-    record {
-      before = λ r c within b. elim (before-or-here r c row column b) [
-        | inl earlier ↦ found-stays es (cell v row column ∷ []) r c (v r c) (g.before r c within earlier)
-        | inr here ↦ subst (λ x. value_at (es ++ cell v row column ∷ []) x c ≡ Some (v x c)) (sym here.0) (subst (λ x. value_at (es ++ cell v row column ∷ []) row x ≡ Some (v row x)) (sym here.1) (cell-here v es row column none))
-      ];
-      after = λ r c n.
-          cell-else v es r c row column (g.after r c (λ b. n (still-before r c row column b)))
-          (no-cell r c row column (λ e. let f = e.1 in n (inr (e.0, omega arith))));
-    }
+not-itself : (r c : ℕ) → IsBefore r c r c → ⊥
+not-itself r c (inl l) = omega arith
+not-itself r c (inr h) = let l = h.1 in omega arith
 
 row-or-before : (columns r c row : ℕ) → c < columns → IsBefore r c (suc row) 0 → IsBefore r c row columns
 row-or-before columns r c row inside (inl l) = elim (cases_lt r row) [ inl m ↦ inl m | inr m ↦ inr (omega arith, inside) ]
@@ -106,119 +178,47 @@ before-next : (columns r c row : ℕ) → IsBefore r c row columns → IsBefore 
 before-next columns r c row (inl l) = inl (omega arith)
 before-next columns r c row (inr h) = let e = h.0 in inl (omega arith)
 
--- after a row the next
-next-row : {T : Type 0} (v : ℕ → ℕ → T) (columns : ℕ) (es : List (Entry T)) (row : ℕ) → AreGiven v columns es row columns → AreGiven v columns es (suc row) 0
-next-row v columns es row g = record {
-  before = λ r c within b. g.before r c within (row-or-before columns r c row within b);
-  after = λ r c n. g.after r c (λ b. n (before-next columns r c row b));
-}
+none-done : (columns : ℕ) (k : Cell) → IsDone columns 0 0 k → ⊥
+none-done columns k d = elim d.1 [ inl l ↦ omega arith | inr h ↦ let l = h.1 in omega arith ]
 
--- what a line for each cell adds
-pub record IsStep {T : Type 0} (at : List (Entry T) → Draft) (text : ℕ → ℕ → List ℕ) (v : ℕ → ℕ → T) (rows columns : ℕ) : Type 0 where
-  pub next : (r c : ℕ) (es : List (Entry T)) → r < rows → c < columns → value_at es r c ≡ None → Tells (at es) (text r c) (at (es ++ cell v r c ∷ []))
+here-done : (columns row column : ℕ) (k : Cell) → column < columns → OrHere (IsDone columns row column) (cell row column) k → IsDone columns row (suc column) k
+here-done columns row column k inside (inl d) = (d.0, still-before k.row k.column row column d.1)
+here-done columns row column k inside (inr e) =
+    let r : k.row ≡ row = ap (λ x. x.row) e in
+    let c : k.column ≡ column = ap (λ x. x.column) e in
+    (omega arith, inr (r, omega arith))
 
--- a text that gives cells up to one
-pub record Gives {T : Type 0} (at : List (Entry T) → Draft) (v : ℕ → ℕ → T) (columns : ℕ) (before : List (Entry T)) (text : List ℕ) (row column : ℕ) : Type 0 where
-  pub given : List (Entry T)
-  pub are : AreGiven v columns given row column
-  pub tells : Tells (at before) text (at given)
+done-here : (columns row column : ℕ) (k : Cell) → IsDone columns row (suc column) k → OrHere (IsDone columns row column) (cell row column) k
+done-here columns row column k d =
+    elim (before-or-here k.row k.column row column d.1) [
+      | inl b ↦ inl (d.0, b)
+      | inr e ↦ let r = e.0 in let c = e.1 in inr (λ i. record { row = r i; column = c i })
+    ]
 
-row-gives : {T : Type 0} (at : List (Entry T) → Draft) (text : ℕ → ℕ → List ℕ) (v : ℕ → ℕ → T) (rows columns : ℕ) → IsStep at text v rows columns
-    → (n c r : ℕ) (es : List (Entry T)) → c + n ≡ columns → r < rows → AreGiven v columns es r c → Gives at v columns es (flat_map (text r) (range_with_len c n)) r columns
-row-gives at text v rows columns step zero c r es e inside g =
-    let same : c ≡ columns = omega arith in
-    record { given = es; are = subst (λ k. AreGiven v columns es r k) same g; tells = tells-none (at es) }
-row-gives at text v rows columns step (suc n) c r es e inside g =
-    let none : value_at es r c ≡ None = g.after r c (λ b. elim b [ inl l ↦ omega arith | inr l ↦ let m = l.1 in omega arith ]) in
-    let one = step.next r c es inside (omega arith) none in
-    let es' = es ++ cell v r c ∷ [] in
-    let more : AreGiven v columns es' r (suc c) = given-more v columns es r c (omega arith) g in
-    let next : suc c ≡ c + 1 = omega arith in
-    let rest = row-gives at text v rows columns step n (c + 1) r es' (omega arith) inside (subst (λ k. AreGiven v columns es' r k) next more) in
-    record { given = rest.given; are = rest.are; tells = tells-more (at es) (at es') (at rest.given) (text r c) (flat_map (text r) (range_with_len (c + 1) n)) one rest.tells }
-
-abbrev pub row_text : (ℕ → ℕ → List ℕ) → ℕ → ℕ → List ℕ
-row_text text columns r = flat_map (text r) (range_with_len 0 columns)
-
-rows-give : {T : Type 0} (at : List (Entry T) → Draft) (text : ℕ → ℕ → List ℕ) (v : ℕ → ℕ → T) (rows columns : ℕ) → IsStep at text v rows columns
-    → (n r : ℕ) (es : List (Entry T)) → r + n ≡ rows → AreGiven v columns es r 0 → Gives at v columns es (flat_map (row_text text columns) (range_with_len r n)) rows 0
-rows-give at text v rows columns step zero r es e g =
-    let same : r ≡ rows = omega arith in
-    record { given = es; are = subst (λ k. AreGiven v columns es k 0) same g; tells = tells-none (at es) }
-rows-give at text v rows columns step (suc n) r es e g =
-    let one = row-gives at text v rows columns step columns 0 r es (omega arith) (omega arith) g in
-    let next : suc r ≡ r + 1 = omega arith in
-    let rest = rows-give at text v rows columns step n (r + 1) one.given (omega arith) (subst (λ k. AreGiven v columns one.given k 0) next (next-row v columns one.given r one.are)) in
+-- a line for each cell, row by row
+pub grid-gives : {T : Type 0} (at : List (Entry T) → Draft) (text : ℕ → ℕ → List ℕ) (v : Cell → Option T) (rows columns : ℕ)
+    → ((r c : ℕ) (es : List (Entry T)) → r < rows → c < columns → value_at es r c ≡ None → Tells (at es) (text r c) (at (with_value entry_at es (cell r c) (v (cell r c)))))
+    → Gives value_in v at [] (flat_map (λ r. flat_map (text r) (range_with_len 0 columns)) (range_with_len 0 rows)) (IsDone columns rows 0)
+grid-gives {T = T} at text v rows columns step =
+    let one : (r c : ℕ) (es : List (Entry T)) → r < rows → c < columns → AreGiven value_in v es (IsDone columns r c) → Gives value_in v at es (text r c) (IsDone columns r (suc c))
+    = λ r c es inside within g.
+    let new : IsDone columns r c (cell r c) → ⊥ = λ d. not-itself r c d.1 in
+    let es' = with_value entry_at es (cell r c) (v (cell r c)) in
     record {
-      given = rest.given;
-      are = rest.are;
-      tells = tells-more (at es) (at one.given) (at rest.given) (row_text text columns r) (flat_map (row_text text columns) (range_with_len (r + 1) n)) one.tells rest.tells;
-    }
+      given = es';
+      are = given-same value_in v es' (OrHere (IsDone columns r c) (cell r c)) (IsDone columns r (suc c)) (λ k. here-done columns r c k within) (done-here columns r c) (given-more value_in entry_at are-table v es (IsDone columns r c) (cell r c) new g);
+      tells = step r c es inside within (g.after (cell r c) new);
+    } in
+    let row : (r : ℕ) (es : List (Entry T)) → r < rows → AreGiven value_in v es (IsDone columns r 0) → Gives value_in v at es (flat_map (text r) (range_with_len 0 columns)) (IsDone columns (suc r) 0)
+    = λ r es inside g.
+    let all = range-gives value_in v at (text r) (IsDone columns r) columns 0 columns (omega arith) (λ c fs l m. one r c fs inside m) es g in
+    record {
+      given = all.given;
+      are = given-same value_in v all.given (IsDone columns r columns) (IsDone columns (suc r) 0) (λ k d. (d.0, before-next columns k.row k.column r d.1)) (λ k d. (d.0, row-or-before columns k.row k.column r d.0 d.1)) all.are;
+      tells = all.tells;
+    } in
+    range-gives value_in v at (λ r. flat_map (text r) (range_with_len 0 columns)) (λ r. IsDone columns r 0) rows 0 rows (omega arith) (λ r fs l m. row r fs m) [] (none-given value_in entry_at are-table v (IsDone columns 0 0) (none-done columns))
 
--- all cells, row by row
-pub all-give : {T : Type 0} (at : List (Entry T) → Draft) (text : ℕ → ℕ → List ℕ) (v : ℕ → ℕ → T) (rows columns : ℕ) → IsStep at text v rows columns
-    → Gives at v columns [] (flat_map (row_text text columns) (range_with_len 0 rows)) rows 0
-all-give at text v rows columns step = rows-give at text v rows columns step rows 0 [] (omega arith) (none-given v columns)
-
-range-all : (p : ℕ → Bool) (n a : ℕ) → ((k : ℕ) → k < a + n → p k ≡ true) → list_all p (range_with_len a n) ≡ true
-range-all p zero a h = refl
-range-all p (suc n) a h = and_from (p a) (list_all p (range_with_len (a + 1) n)) (h a (omega arith)) (range-all p n (a + 1) (λ k l. h k (omega arith)))
-
-range-map : {T : Type 0} (f : ℕ → Option T) (v : ℕ → T) (n a : ℕ) → ((k : ℕ) → k < a + n → f k ≡ Some (v k)) → filter_map f (range_with_len a n) ≡ map v (range_with_len a n)
-range-map f v zero a h = refl
-range-map f v (suc n) a h =
-    ap (λ o. cons_option o (filter_map f (range_with_len (a + 1) n))) (h a (omega arith)) ∙ ap (λ l. v a ∷ l) (range-map f v n (a + 1) (λ k l. h k (omega arith)))
-
-range-flat : {T : Type 0} (f g : ℕ → List T) (n a : ℕ) → ((k : ℕ) → k < a + n → f k ≡ g k) → flat_map f (range_with_len a n) ≡ flat_map g (range_with_len a n)
-range-flat f g zero a h = refl
-range-flat f g (suc n) a h = λ i. h a (omega arith) i ++ range-flat f g n (a + 1) (λ k l. h k (omega arith)) i
-
-given-cell : {T : Type 0} (v : ℕ → ℕ → T) (rows columns : ℕ) (es : List (Entry T)) → AreGiven v columns es rows 0 → (r c : ℕ) → r < rows → c < columns → value_at es r c ≡ Some (v r c)
-given-cell v rows columns es g r c inside within = g.before r c within (inl inside)
-
-pub given-full : {T : Type 0} (v : ℕ → ℕ → T) (rows columns : ℕ) (es : List (Entry T)) → AreGiven v columns es rows 0 → is_full es rows columns ≡ true
-given-full v rows columns es g =
-    range-all (is_full_row es columns) rows 0 (λ r l. range-all (λ c. is_some (value_at es r c)) columns 0 (λ c m. ap is_some (given-cell v rows columns es g r c (omega arith) (omega arith))))
-
-given-table : {T : Type 0} (v : ℕ → ℕ → T) (rows columns : ℕ) (es : List (Entry T)) → AreGiven v columns es rows 0 → table es rows columns ≡ flat_map (λ r. map (v r) (range_with_len 0 columns)) (range_with_len 0 rows)
-given-table v rows columns es g =
-    range-flat (row_of es columns) (λ r. map (v r) (range_with_len 0 columns)) rows 0 (λ r l. range-map (value_at es r) (v r) columns 0 (λ c m. given-cell v rows columns es g r c (omega arith) (omega arith)))
-
-row-of-list : {T : Type 0} (xs : List T) (d : T) (o n c : ℕ) → o + c + n ≤ length xs → map (λ k. get_or xs (o + k) d) (range_with_len c n) ++ drop (o + c + n) xs ≡ drop (o + c) xs
-row-of-list xs d o zero c h = ap (λ k. drop k xs) (omega arith)
-row-of-list xs d o (suc n) c h =
-    let shift : o + c + suc n ≡ o + (c + 1) + n = omega arith in
-    let next : o + (c + 1) ≡ suc (o + c) = omega arith in
-    ap (λ l. get_or xs (o + c) d ∷ l) (ap (λ k. map (λ j. get_or xs (o + j) d) (range_with_len (c + 1) n) ++ drop k xs) shift ∙ (row-of-list xs d o n (c + 1) (omega arith) ∙ ap (λ k. drop k xs) next))
-    ∙ sym (drop-cons xs (o + c) d (omega arith))
-
--- the value of a cell of a list that is laid out by rows
-abbrev pub laid : {T : Type 0} → List T → T → ℕ → ℕ → ℕ → T
-laid xs d columns r c = get_or xs (r * columns + c) d
-
-rows-of-list : {T : Type 0} (xs : List T) (d : T) (rows columns n r : ℕ) → length xs ≡ rows * columns → r + n ≡ rows
-    → flat_map (λ k. map (laid xs d columns k) (range_with_len 0 columns)) (range_with_len r n) ≡ drop (r * columns) xs
-rows-of-list xs d rows columns zero r size e =
-    let same : r ≡ rows = omega arith in
-    let all : r * columns ≡ rows * columns = ap (λ k. k * columns) same in
-    sym (drop_all (r * columns) xs (omega (arith, size, all)))
-rows-of-list xs d rows columns (suc n) r size e =
-    let within : (r + 1) * columns ≤ rows * columns = mul-le-mul_right columns (omega arith) in
-    let end : (r + 1) * columns ≡ r * columns + 0 + columns = omega arith in
-    let start : r * columns + 0 ≡ r * columns = omega arith in
-    let row = map (laid xs d columns r) (range_with_len 0 columns) in
-    ap (λ l. row ++ l) (rows-of-list xs d rows columns n (r + 1) size (omega arith) ∙ ap (λ k. drop k xs) end)
-    ∙ (row-of-list xs d (r * columns) columns 0 (omega (arith, size, within, end)) ∙ ap (λ k. drop k xs) start)
-
--- the table is the list that was laid out
-pub table-is-list : {T : Type 0} (xs : List T) (d : T) (rows columns : ℕ) (es : List (Entry T)) → length xs ≡ rows * columns → AreGiven (laid xs d columns) columns es rows 0 → table es rows columns ≡ xs
-table-is-list xs d rows columns es size g =
-    let none : 0 * columns ≡ 0 = omega arith in
-    given-table (laid xs d columns) rows columns es g ∙ (rows-of-list xs d rows columns rows 0 size (omega arith) ∙ ap (λ k. drop k xs) none)
-
--- a cell of a table has its place in the list
-pub cell-inside : (rows columns r c size : ℕ) → size ≡ rows * columns → r < rows → c < columns → r * columns + c < size
-cell-inside rows columns r c size e inside within =
-    let m : (r + 1) * columns ≤ rows * columns = mul-le-mul_right columns (omega arith) in
-    let f : (r + 1) * columns ≡ r * columns + columns = omega arith in
-    omega (arith, m, f, e)
+-- what is given for a cell once all are done
+pub given-cell : {T : Type 0} (v : Cell → Option T) (rows columns : ℕ) (es : List (Entry T)) → AreGiven value_in v es (IsDone columns rows 0) → (r c : ℕ) → r < rows → c < columns → value_at es r c ≡ v (cell r c)
+given-cell v rows columns es g r c inside within = g.before (cell r c) (within, inl inside)

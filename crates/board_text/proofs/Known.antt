@@ -68,3 +68,14 @@ pub room : {X : Type 0} (most : ℕ) (xs : List X) (k : ℕ) → k < length xs �
 room most xs k inside few =
     let size : length (take k xs) ≡ k = length-take-le k xs (omega arith) in
     le-ltb most (length (take k xs) + 1) (omega (arith, size))
+
+-- the same beside others
+pub room-with : {X : Type 0} (most : ℕ) (xs : List X) (k others : ℕ) → k < length xs → length xs + others ≤ most → nat_lt most (length (take k xs) + others + 1) ≡ false
+room-with most xs k others inside few =
+    let size : length (take k xs) ≡ k = length-take-le k xs (omega arith) in
+    le-ltb most (length (take k xs) + others + 1) (omega (arith, size))
+
+pub room-after : {X : Type 0} (most : ℕ) (xs : List X) (k others : ℕ) → k < length xs → others + length xs ≤ most → nat_lt most (others + length (take k xs) + 1) ≡ false
+room-after most xs k others inside few =
+    let size : length (take k xs) ≡ k = length-take-le k xs (omega arith) in
+    le-ltb most (others + length (take k xs) + 1) (omega (arith, size))

@@ -1,11 +1,15 @@
 pub mod Cells
+pub mod ClearsRead
 pub mod Drafts
 pub mod Fitting
 pub mod ItemsRead
 pub mod Known
+pub mod Laid
 pub mod Lines
 pub mod Numerals
+pub mod Pairs
 pub mod Telling
+pub mod Versions
 pub mod ViasRead
 pub mod Whole
 pub mod WiresRead

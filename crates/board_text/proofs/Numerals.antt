@@ -60,7 +60,7 @@ pub size-is : (z : ℤ) → pos 0 ≤ℤ z → pos (size z) ≡ z
 size-is (pos n) h = refl
 size-is (negsuc n) h = absurd (omega (arith, ints))
 
-size-most : (z : ℤ) (n : ℕ) → z ≤ℤ pos n → size z ≤ n
+pub size-most : (z : ℤ) (n : ℕ) → z ≤ℤ pos n → size z ≤ n
 size-most (pos m) n h = omega (arith, ints)
 size-most (negsuc m) n h = omega arith
 

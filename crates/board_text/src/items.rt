@@ -1,10 +1,10 @@
 ghost use Rattle.std.specs.Prelude.{◌≡◌, ◌++◌, ◌<◌, length, OnOk, All};
 ghost use Rattle.std.specs.List.{flat_map, range_with_len};
-ghost use Rattle.board_model.specs.Rules.{IsBlock, IsPin};
-ghost use Rattle.board_text.specs.Spelled.{spaced, place_words, block_line, net_line, pin_line, item_lines, net_at};
+ghost use Rattle.board_model.specs.Rules.{IsBlock, IsKeepout, IsPin};
+ghost use Rattle.board_text.specs.Spelled.{spaced, place_words, block_line, kept_out, keepout_line, net_line, pin_line, item_lines, net_at};
 
 use crate::words::{push_area, push_word};
-use board_model::{Block, Board, Pin};
+use board_model::{Block, Board, Keepout, Pin};
 use geo_rect::{List, NetId, NoMemory};
 
 #[tactic(auto, unfolding(crate::specs::Spelled::line))]
@@ -24,6 +24,35 @@ fn push_blocks(text: &mut List<u8>, board: &Board, blocks: &[Block]) -> Result<(
 {
     for block in blocks {
         push_block(text, board, block)?;
+    }
+    Ok(())
+}
+
+/// How a line writes what a keep-out keeps out.
+fn kept_out(wires: bool) -> &'static str
+    ensures { result.now ≡ kept_out wires }
+{
+    if wires { "wires" } else { "vias" }
+}
+
+#[tactic(auto, unfolding(crate::specs::Spelled::line))]
+fn push_keepout(text: &mut List<u8>, board: &Board, keepout: &Keepout) -> Result<(), NoMemory>
+    requires { IsKeepout board.now.parts keepout.now }
+    ensures { OnOk result (text.new ≡ text.old ++ keepout_line board.now.parts keepout.now) }
+{
+    text.extend_from_slice(b"keepout")?;
+    push_word(text, kept_out(keepout.wires))?;
+    push_word(text, board.layer_name(keepout.layer))?;
+    push_area(text, keepout.area)?;
+    text.extend_from_slice(b"\n")
+}
+
+fn push_keepouts(text: &mut List<u8>, board: &Board, keepouts: &[Keepout]) -> Result<(), NoMemory>
+    requires { All (IsKeepout board.now.parts) keepouts.now }
+    ensures { OnOk result (text.new ≡ text.old ++ flat_map (keepout_line board.now.parts) keepouts.now) }
+{
+    for keepout in keepouts {
+        push_keepout(text, board, keepout)?;
     }
     Ok(())
 }
@@ -81,12 +110,13 @@ fn push_pins(text: &mut List<u8>, board: &Board, pins: &[Pin]) -> Result<(), NoM
     Ok(())
 }
 
-/// Adds the lines of the blockages, of the nets and of the pins.
+/// Adds the lines of the blockages, of the keep-outs, of the nets and of the pins.
 #[tactic(auto, unfolding(crate::specs::Spelled::item_lines))]
 pub fn push_items(text: &mut List<u8>, board: &Board) -> Result<(), NoMemory>
     ensures { OnOk result (text.new ≡ text.old ++ item_lines board.now.parts) }
 {
     push_blocks(text, board, board.blocks())?;
+    push_keepouts(text, board, board.keepouts())?;
     push_nets(text, board)?;
     push_pins(text, board, board.pins())
 }

@@ -2,21 +2,40 @@ ghost use Rattle.std.specs.Prelude.{◌≡◌, ◌++◌, ◌<◌, length, OnOk};
 ghost use Rattle.std.specs.Fmt.{signed_decimal};
 ghost use Rattle.std.specs.List.{flat_map, range_with_len};
 ghost use Rattle.board_model.specs.Lookup.{layer_at};
-ghost use Rattle.board_text.specs.Spelled.{spaced, board_line, layer_line, class_line, rule_line, rule_lines, wire_lines};
+ghost use Rattle.board_text.specs.Spelled.{spaced, version_word, board_line, layer_line, class_line, rule_line, rule_lines, wire_lines};
 
+use crate::spelling::Version;
 use crate::words::{push_length, push_word};
 use board_model::{Board, Rule};
 use geo_rect::{ClassId, LayerId, List, NoMemory, Text};
 
+/// How the first line writes the version.
+fn version_word(version: Version) -> &'static str
+    ensures { result.now ≡ version_word version }
+{
+    match version {
+        Version::First => "1",
+        Version::Second => "2",
+    }
+}
+
+/// Adds the width and the height of the board, each behind a space.
+fn push_size(text: &mut List<u8>, board: &Board) -> Result<(), NoMemory>
+    ensures { OnOk result (text.new ≡ text.old ++ spaced (signed_decimal board.now.parts.width) ++ spaced (signed_decimal board.now.parts.height)) }
+{
+    push_length(text, board.width())?;
+    push_length(text, board.height())
+}
+
 /// Adds the first line.
 #[tactic(auto, unfolding(crate::specs::Spelled::line))]
-pub fn push_board(text: &mut List<u8>, board: &Board) -> Result<(), NoMemory>
-    ensures { OnOk result (text.new ≡ text.old ++ board_line board.now.parts) }
+pub fn push_board(text: &mut List<u8>, version: Version, board: &Board) -> Result<(), NoMemory>
+    ensures { OnOk result (text.new ≡ text.old ++ board_line version board.now.parts) }
 {
-    text.extend_from_slice(b"board 1")?;
+    text.extend_from_slice(b"board")?;
+    push_word(text, version_word(version))?;
     push_word(text, board.name())?;
-    push_length(text, board.width())?;
-    push_length(text, board.height())?;
+    push_size(text, board)?;
     text.extend_from_slice(b"\n")
 }
 

@@ -1,5 +1,5 @@
 -- Endings of a part of a call as endings of the call.
-use Rattle.std.proofs.Common.{◌≡◌, ℕ, Bool, List, Option, Some, None, refl, sym, subst, inl, inr}
+use Rattle.std.proofs.Common.{◌≡◌, ℕ, Bool, List, Option, Some, None, inr}
 use Rattle.board_model.specs.declared.commands.Command.{Command}
 use Rattle.board_model.specs.declared.parts.BoardParts.{BoardParts}
 use Rattle.board_reader.specs.Reading.{Told}
@@ -9,28 +9,14 @@ use Rattle.contour.specs.declared.requests.Request.{Request}
 use Rattle.contour.specs.declared.requests.Request.TheVariants.{Run}
 use Rattle.contour.specs.Answers.{AnswersAll}
 use Rattle.contour.specs.Causes.{AnswersInput, AnswersNoneOrFirst, CutsInputShort, EndsCall, IsBeforeReplies}
-use Rattle.contour.specs.Endings.{EndsAnswers, EndsReading}
+use Rattle.contour.specs.Endings.{EndsAnswers}
 use Rattle.contour.specs.Inputs.{IfTold, IsAcceptedAs}
 
 pub if_told-weaker : (left : Option (List ℕ)) (P Q : List ℕ → Type 0) → ((bytes : List ℕ) → P bytes → Q bytes) → IfTold left P → IfTold left Q
 if_told-weaker None P Q f h = tt
 if_told-weaker (Some bytes) P Q f h = f bytes h
 
-always_told : (left : Option (List ℕ)) (P : List ℕ → Type 0) → ((bytes : List ℕ) → P bytes) → IfTold left P
-always_told None P f = tt
-always_told (Some bytes) P f = f bytes
-
 module _ (quiet : Bool) (left : Option (List ℕ)) (reads reads' : ℕ) where
-  -- an ending of the reading of the input
-  pub ends_reading : (held : Option (List ℕ)) (writes : ℕ) (e : Ending) → EndsReading left reads reads' e → EndsCall (Run quiet) left reads reads' held held writes writes e
-  ends_reading held writes BadWords h = h
-  ends_reading held writes TooLong h = h
-  ends_reading held writes (Refused r) h = h
-  ends_reading held writes (Wrong n) h = absurd h
-  ends_reading held writes ReadFault h = (tt, h)
-  ends_reading held writes WriteFault h = absurd h
-  ends_reading held writes NoMemory h = always_told left (AnswersNoneOrFirst quiet held held) (λ bytes. inl refl)
-
   -- an ending of the replies to an accepted input
   pub ends_replies : (held holds : Option (List ℕ)) (writes writes' : ℕ) (told : Told) → IfTold left (IsAcceptedAs told) → (e : Ending) → EndsAnswers told.parts quiet told.commands held holds writes writes' e → EndsCall (Run quiet) left reads reads' held holds writes writes' e
   ends_replies held holds writes writes' told ok BadWords h = h

@@ -3,3 +3,4 @@ pub mod Ended
 pub mod Replied
 pub mod Sent
 pub mod SummedUp
+pub mod Upgrading

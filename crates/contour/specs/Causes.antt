@@ -8,11 +8,12 @@ use Rattle.contour.specs.declared.endings.Ending.TheVariants.{BadWords, TooLong,
 use Rattle.contour.specs.declared.endings.Status.{Status}
 use Rattle.contour.specs.declared.endings.Status.TheVariants as status
 use Rattle.contour.specs.declared.requests.Request.{Request}
-use Rattle.contour.specs.declared.requests.Request.TheVariants.{Run, Check, Gen, Demo}
+use Rattle.contour.specs.declared.requests.Request.TheVariants.{Run, Check, Upgrade, Gen, Demo}
 use Rattle.contour.specs.Answers.{AnswersAll, AnswersFirst, IsCutShort}
 use Rattle.contour.specs.Checked.{FindsRight, FindsRightInPart, FindsWrong, IsChecked, IsUnchecked, IsUncheckedAs}
 use Rattle.contour.specs.Demos.{IsOfGenerated, SumsUp, SumsUpInPart}
 use Rattle.contour.specs.Endings.{status_of, line_of}
+use Rattle.contour.specs.Upgrades.{UpgradesInput, UpgradesInputInPart}
 use Rattle.contour.specs.Requests.{IsNoRequest, IsRequestThat, ReadsInput}
 use Rattle.contour.specs.Inputs.{IfTold, IsToldAnd, IsTooLong, IsAcceptedAs, IsAccepted, IsRefusedAs, IsRefused}
 
@@ -43,6 +44,7 @@ AnswersNoneOrFirst quiet held holds bytes = (holds ≡ held) ⊎ AnswersInputFir
 abbrev pub HasDone : Option (List ℕ) → Option (List ℕ) → Option (List ℕ) → Request → Type 0
 HasDone left held holds (Run quiet) = IfTold left (AnswersInput quiet held holds)
 HasDone left held holds Check = IfTold left (FindsRight held holds)
+HasDone left held holds Upgrade = IfTold left (UpgradesInput held holds)
 HasDone left held holds (Gen n) = Appends held holds (generated n)
 HasDone left held holds (Demo n) = IsOfGenerated n (λ b cs. SumsUp b cs n held holds)
 
@@ -51,6 +53,7 @@ HasDone left held holds (Demo n) = IsOfGenerated n (λ b cs. SumsUp b cs n held 
 abbrev pub HasRead : Option (List ℕ) → Option (List ℕ) → Request → Type 0
 HasRead left left' (Run quiet) = IsToldAs left' []
 HasRead left left' Check = IsToldAs left' []
+HasRead left left' Upgrade = IsToldAs left' []
 HasRead left left' (Gen n) = left' ≡ left
 HasRead left left' (Demo n) = left' ≡ left
 
@@ -58,6 +61,7 @@ HasRead left left' (Demo n) = left' ≡ left
 abbrev pub HasBeenCut : Option (List ℕ) → Option (List ℕ) → Option (List ℕ) → Request → Type 0
 HasBeenCut left held holds (Run quiet) = IfTold left (CutsInputShort quiet held holds)
 HasBeenCut left held holds Check = IfTold left (FindsRightInPart held holds)
+HasBeenCut left held holds Upgrade = IfTold left (UpgradesInputInPart held holds)
 HasBeenCut left held holds (Gen n) = AppendsPart held holds (generated n)
 HasBeenCut left held holds (Demo n) = IsOfGenerated n (λ b cs. SumsUpInPart b cs n held holds)
 
@@ -65,6 +69,7 @@ HasBeenCut left held holds (Demo n) = IsOfGenerated n (λ b cs. SumsUpInPart b c
 abbrev pub HasRunOut : Option (List ℕ) → Option (List ℕ) → Option (List ℕ) → Request → Type 0
 HasRunOut left held holds (Run quiet) = IfTold left (AnswersNoneOrFirst quiet held holds)
 HasRunOut left held holds Check = holds ≡ held
+HasRunOut left held holds Upgrade = holds ≡ held
 HasRunOut left held holds (Gen n) = holds ≡ held
 HasRunOut left held holds (Demo n) = IsOfGenerated n (λ b cs. AnswersFirst b true cs held holds)
 
@@ -72,6 +77,7 @@ HasRunOut left held holds (Demo n) = IsOfGenerated n (λ b cs. AnswersFirst b tr
 abbrev pub Refuses : Option (List ℕ) → Request → Type 0
 Refuses left (Run quiet) = IfTold left IsRefused
 Refuses left Check = IfTold left IsUnchecked
+Refuses left Upgrade = IfTold left IsRefused
 Refuses left (Gen n) = ⊥
 Refuses left (Demo n) = ⊥
 
@@ -79,6 +85,7 @@ Refuses left (Demo n) = ⊥
 abbrev pub MustRefuse : Option (List ℕ) → Request → Type 0
 MustRefuse left (Run quiet) = IsToldAnd left IsRefused
 MustRefuse left Check = IsToldAnd left IsUnchecked
+MustRefuse left Upgrade = IsToldAnd left IsRefused
 MustRefuse left (Gen n) = ⊥
 MustRefuse left (Demo n) = ⊥
 
@@ -86,6 +93,7 @@ MustRefuse left (Demo n) = ⊥
 abbrev pub MustAccept : Option (List ℕ) → Request → Type 0
 MustAccept left (Run quiet) = IsToldAnd left IsAccepted
 MustAccept left Check = IsToldAnd left IsChecked
+MustAccept left Upgrade = IsToldAnd left IsAccepted
 MustAccept left (Gen n) = Unit {0}
 MustAccept left (Demo n) = Unit {0}
 
@@ -93,6 +101,7 @@ MustAccept left (Demo n) = Unit {0}
 abbrev pub HasFoundWrong : Option (List ℕ) → Request → Type 0
 HasFoundWrong left (Run quiet) = ⊥
 HasFoundWrong left Check = IfTold left (λ bytes. (n : ℕ) × FindsWrong n bytes)
+HasFoundWrong left Upgrade = ⊥
 HasFoundWrong left (Gen n) = ⊥
 HasFoundWrong left (Demo n) = ⊥
 
@@ -120,6 +129,7 @@ IsOfReplies left NoMemory = Unit {0}
 abbrev pub IsOfInput : Option (List ℕ) → Ending → Request → Type 0
 IsOfInput left ending (Run quiet) = IsOfBoardText left ending
 IsOfInput left ending Check = IsOfReplies left ending
+IsOfInput left ending Upgrade = IsOfBoardText left ending
 IsOfInput left ending (Gen n) = ⊥
 IsOfInput left ending (Demo n) = ⊥
 

@@ -37,7 +37,7 @@ ending_of_input input.NoMemory = NoMemory
 
 -- the line that is written on an ending
 abbrev pub line_of : Ending → List ℕ
-line_of BadWords = codes "usage: contour run [--quiet] / check / gen N / demo N\n"
+line_of BadWords = codes "usage: contour run [--quiet] / check / upgrade / gen N / demo N\n"
 line_of TooLong = codes "too long\n"
 line_of (Refused r) = codes "line " ++ decimal r.line ++ codes " kind " ++ decimal (number_of_kind r.kind) ++ codes "\n"
 line_of (Wrong n) = codes "wrong reply " ++ decimal n ++ codes "\n"

@@ -7,3 +7,4 @@ pub mod Inputs
 pub mod Requests
 pub mod Sessions
 pub mod Texts
+pub mod Upgrades

@@ -1,7 +1,7 @@
 -- The words that the program is called with.
 use Rattle.std.specs.Prelude.{◌≡◌, ℕ, ◌≤◌, true, false, List, [], ◌∷◌, codes, decimal, ⊤}
 use Rattle.contour.specs.declared.requests.Request.{Request}
-use Rattle.contour.specs.declared.requests.Request.TheVariants.{Run, Check, Gen, Demo}
+use Rattle.contour.specs.declared.requests.Request.TheVariants.{Run, Check, Upgrade, Gen, Demo}
 
 -- how many nets a generated board may have
 pub record IsSize (n : ℕ) : Type 0 where
@@ -12,6 +12,7 @@ pub record IsSize (n : ℕ) : Type 0 where
 abbrev pub IsGood : Request → Type 0
 IsGood (Run quiet) = ⊤
 IsGood Check = ⊤
+IsGood Upgrade = ⊤
 IsGood (Gen n) = IsSize n
 IsGood (Demo n) = IsSize n
 
@@ -20,6 +21,7 @@ abbrev pub words_of : Request → List (List ℕ)
 words_of (Run false) = codes "run" ∷ []
 words_of (Run true) = codes "run" ∷ codes "--quiet" ∷ []
 words_of Check = codes "check" ∷ []
+words_of Upgrade = codes "upgrade" ∷ []
 words_of (Gen n) = codes "gen" ∷ decimal n ∷ []
 words_of (Demo n) = codes "demo" ∷ decimal n ∷ []
 
@@ -38,5 +40,6 @@ pub record IsRequestThat (words : List (List ℕ)) (P : Request → Type 0) : Ty
 abbrev pub ReadsInput : Request → Type 0
 ReadsInput (Run quiet) = ⊤
 ReadsInput Check = ⊤
+ReadsInput Upgrade = ⊤
 ReadsInput (Gen n) = ⊥
 ReadsInput (Demo n) = ⊥

@@ -15,6 +15,7 @@ use crate::endings::{Ending, Status};
 use crate::inputs::{MAX_INPUT, read_text};
 use crate::lines::{right_line, tell};
 use crate::requests::{Request, request_of};
+use crate::upgrades::upgrade_text;
 use board_gen::generate;
 use io_edge::{Sink, Source, read_all, write_all};
 use std::alloc::Global;
@@ -94,6 +95,7 @@ fn fulfil<S: Source, K: Sink>(
     match request {
         Request::Run { quiet } => run(alloc, quiet, source, out),
         Request::Check => check(alloc, source, out),
+        Request::Upgrade => upgrade_text(alloc, source, out),
         Request::Gen(n) => write_generated(alloc, n, out),
         Request::Demo(n) => demo(alloc, n, out),
     }
@@ -137,7 +139,8 @@ pub fn contour<S: Source, K: Sink, E: Sink>(
 ) -> Status
     // What the words ask for was done. Of `run`: all was read, a board text, to the end of the source, and
     // the replies to its commands were written and nothing else. Of `check`: all was read, and the
-    // replies after the board text are right. Of `gen`: nothing was read, and the text was written. Of
+    // replies after the board text are right. Of `upgrade`: all was read, a board text, and its board and
+    // commands were written as a text of the second version and nothing else. Of `gen`: nothing was read, and the text was written. Of
     // `demo`: nothing was read, and the replies to the commands of that text were written, and then
     // their summary.
     ensures done { result ≡ Status.Done → IsRequestThat (map string_bytes words.now)

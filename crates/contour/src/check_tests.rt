@@ -148,3 +148,28 @@ rules
 ";
     expect(&rt, &["gen", "1"], "", Status::Done, text, "")
 }
+
+/// A text of the first version and how it is written in the second; a semicolon ends a line.
+const UPGRADED: [(&str, &str); 2] = [
+    (
+        "board 1 demo 40 20;layer top;class sig;rule top sig 1 2;block top 18 0 22 14;net a sig;pin a 4 9 6 11 top top;pin a 34 9 36 11 top top;end;route a;",
+        "board 2 demo 40 20;layer top;class sig;rule top sig 1 2;block top 18 0 22 14;net a sig;pin a 4 9 6 11 top top;pin a 34 9 36 11 top top;end;route a;",
+    ),
+    (
+        "# by hand;board 2 b 040 20;layer top;keepout vias top 1 1 2 2;layer mid;layer bot;class hv;class sig;net a sig;clear bot sig hv 9;clear top hv sig 4;rule top hv 1 4;rule top sig 1 3;rule mid sig 1 2;rule mid hv 1 2;rule bot hv 1 2;rule bot sig 1 2;clear mid hv hv 1;viakind t bot top 5;inner t sig 1;inner t hv 2;pad t hv 2;pad t sig 2;pin a 1 2 3 4 bot mid;block mid 0 0 1 1;end;strips top sig;all",
+        "board 2 b 40 20;layer top;layer mid;layer bot;class hv;class sig;rule top hv 1 4;rule top sig 1 3;rule mid hv 1 2;rule mid sig 1 2;rule bot hv 1 2;rule bot sig 1 2;clear mid hv hv 1;clear bot hv sig 9;viakind t top bot 5;pad t hv 2;pad t sig 2;inner t sig 1;block mid 0 0 1 1;keepout vias top 1 1 2 2;net a sig;pin a 1 2 3 4 mid bot;end;strips top sig;all;",
+    ),
+];
+
+#[test]
+fn a_text_is_upgraded(rt: HostRuntime) -> Result<(), Fail> {
+    for (old, new) in UPGRADED {
+        let mut text = Vec::new(rt.alloc());
+        add(&mut text, old, b';', b"\n")?;
+        let mut wanted = Vec::new(rt.alloc());
+        add(&mut wanted, new, b';', b"\n")?;
+        let out = from_utf8(&wanted)?;
+        expect(&rt, &["upgrade"], from_utf8(&text)?, Status::Done, out, "")?;
+    }
+    Ok(())
+}

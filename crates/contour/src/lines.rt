@@ -80,7 +80,7 @@ fn line(alloc: Global, ending: Ending) -> Line
     match ending {
         Ending::BadWords => fixed_line(
             alloc,
-            b"usage: contour run [--quiet] / check / gen N / demo N\n",
+            b"usage: contour run [--quiet] / check / upgrade / gen N / demo N\n",
         ),
         Ending::TooLong => fixed_line(alloc, b"too long\n"),
         Ending::Refused(refusal) => refusal_line(alloc, refusal),

@@ -23,6 +23,7 @@ mod requests;
 mod route_tests;
 #[cfg(test)]
 mod tests;
+mod upgrades;
 
 use crate::calls::contour;
 use crate::endings::Status;

@@ -1,7 +1,9 @@
 //! The reader of board texts: refusals by line and kind, and whole boards.
 
 use crate::connector::CONNECTOR;
+use board_model::Board;
 use board_reader::{Input, ReadInput, read_input, split_check};
+use geo_rect::{ClassId, KindId, LayerId};
 use std::alloc::{AllocError, Global};
 use std::process::Abort;
 use std::test::Fail;
@@ -73,7 +75,45 @@ const CASES: &str = "4 4 8 8|
 1 1 0 0|board 01 demo 00000000000000000040 20;
 1 1 1 3|board 1 demo 000000000000000000040 20;
 1 1 1 4|board 1 demo 99999999999999999999 20;
-1 1 1 4|board 2 demo 40 20;
+1 1 0 0|board 2 demo 40 20;
+1 1 0 0|board 02 demo 40 20;
+1 1 1 4|board 0 demo 40 20;
+1 1 1 4|board 3 demo 40 20;
+1 1 1 4|board 1 demo 8388608 20;
+1 1 0 0|board 2 big 8388608 8388608;
+1 1 1 4|board 2 big 8388609 8388608;
+1 1 1 4|board 2 big 8388608 8388609;
+5 5 5 2|clear top sig sig 3;block top 18 0 22 14;
+5 5 5 1|clear top sig s\u{e9}g 3;
+10 10 10 2|clear top sig sig 3;
+1 10 1 2|clear top sig sig 3;
+1 3 0 0|board 2 demo 40 20;layer top;class sig;clear top sig sig 65535;
+1 3 4 2|board 2 demo 40 20;layer top;class sig;clear top sig 3;
+1 3 4 3|board 2 demo 40 20;layer top;class sig;clear top sig sig three;
+1 3 4 4|board 2 demo 40 20;layer top;class sig;clear top sig sig 0;
+1 3 4 4|board 2 demo 40 20;layer top;class sig;clear top sig sig 65536;
+1 3 4 5|board 2 demo 40 20;layer top;class sig;clear low sig sig 3;
+1 3 4 5|board 2 demo 40 20;layer top;class sig;clear top sig hv 3;
+1 3 4 5|board 2 demo 40 20;layer top;class sig;clear top hv sig 3;
+1 10 6 6|board 2 b 9 9;layer top;class sig;class hv;clear top sig hv 4;clear top sig hv 6;
+1 10 6 6|board 2 b 9 9;layer top;class sig;class hv;clear top sig hv 4;clear top hv sig 0;
+1 10 7 9|board 2 b 9 9;layer top;class sig;class hv;clear top sig hv 4;clear top hv hv 4;
+1 10 5 8|board 2 b 9 9;layer top;class sig;clear top sig sig 4;end;
+1 10 6 7|board 2 b 9 9;layer top;class sig;rule top sig 1 2;end;clear top sig sig 4;
+5 5 5 2|keepout all top 18 0 22 14;
+5 5 5 2|keepout Wires top 18 0 22 14;
+5 5 5 2|keepout wires top 18 0 22;
+5 5 0 0|keepout wires top 18 0 22 14;keepout vias top 0 0 40 20;
+5 5 5 3|keepout vias low x 0 22 14;
+5 5 5 5|keepout vias low 18 0 22 14;
+5 5 5 4|keepout wires top 18 0 41 14;
+5 5 5 4|keepout wires top 18 0 22 21;
+5 5 5 11|keepout vias top 22 0 18 14;
+5 5 5 11|keepout vias top 18 14 22 0;
+10 10 10 7|keepout vias top 18 0 22 14;
+1 10 1 7|keepout vias top 18 0 22 14;
+10 10 10 7|inner v sig 1;
+5 5 5 5|inner v sig 1;
 1 1 1 3|board one demo 40 20;
 6 6 0 0|net a sig;net aaaaaaaaaaaaaaaaaaaaaaaaaaaaaaaaaaaaaaaaaaaaaaaaaaaaaaaaaaaaaaaa sig;
 6 6 7 2|net a sig;net aaaaaaaaaaaaaaaaaaaaaaaaaaaaaaaaaaaaaaaaaaaaaaaaaaaaaaaaaaaaaaaaa sig;
@@ -97,6 +137,17 @@ const CASES: &str = "4 4 8 8|
 1 10 8 8|board 1 b 9 9;layer a;layer b;class c;rule a c 1 1;rule b c 1 1;viakind v b a 65535;end;
 1 10 8 4|board 1 b 9 9;layer a;layer b;class c;rule a c 1 1;rule b c 1 1;viakind v b a 65535;pad v c 65536;end;
 1 10 9 6|board 1 b 9 9;layer a;layer b;class c;rule a c 1 1;rule b c 1 1;viakind v b a 65535;pad v c 1;pad v c 2;
+1 10 9 11|board 1 b 40 20;layer top;layer mid;layer bot;class sig;rule top sig 1 2;rule mid sig 1 2;rule bot sig 1 2;viakind thru top top 5;
+1 10 0 0|board 1 b 40 20;layer top;layer mid;layer bot;class sig;rule top sig 1 2;rule mid sig 1 2;rule bot sig 1 2;viakind thru bot top 5;pad thru sig 2;end;
+1 10 0 0|board 1 b 40 20;layer top;layer mid;layer bot;class sig;rule top sig 1 2;rule mid sig 1 2;rule bot sig 1 2;viakind thru bot top 5;inner thru sig 65535;pad thru sig 2;end;
+1 10 11 8|board 1 b 40 20;layer top;layer mid;layer bot;class sig;rule top sig 1 2;rule mid sig 1 2;rule bot sig 1 2;viakind thru bot top 5;inner thru sig 1;end;
+1 10 7 11|board 1 b 40 20;layer top;layer mid;layer bot;class sig;viakind v mid top 5;inner v sig 1;
+1 10 7 4|board 1 b 40 20;layer top;layer mid;layer bot;class sig;viakind v mid top 5;inner v sig 0;
+1 10 7 4|board 1 b 40 20;layer top;layer mid;layer bot;class sig;viakind v bot top 5;inner v sig 65536;
+1 10 7 5|board 1 b 40 20;layer top;layer mid;layer bot;class sig;viakind v bot top 5;inner v hv 1;
+1 10 7 2|board 1 b 40 20;layer top;layer mid;layer bot;class sig;viakind v bot top 5;inner v sig;
+1 10 8 6|board 1 b 40 20;layer top;layer mid;layer bot;class sig;viakind v bot top 5;inner v sig 1;inner v sig 1;
+1 10 9 9|board 1 b 40 20;layer top;layer mid;layer bot;class sig;viakind v bot top 5;inner v sig 1;pad v sig 1;
 9 10 9 9|
 9 10 0 0|end
 9 10 0 0|end;
@@ -289,5 +340,86 @@ fn reads_lines_with_carriage_returns(rt: HostRuntime) -> Result<(), Fail> {
         Ok(input) => holds(&rt, &input, "J1-U3", (30000, 12500), [4, 3, 12, 24, 8, 3]),
         Err(_) => return Err("the text is read".into()),
     }
+    Ok(())
+}
+
+/// A board of three layers and two classes, without its end.
+const WIDE: &str = "board 2 wide 40 20;layer top;layer mid;layer bot;class sig;class hv;
+rule top sig 1 2;rule mid sig 1 2;rule bot sig 1 2;rule top hv 1 4;rule mid hv 1 4;rule bot hv 1 4;
+viakind thru bot top 5;pad thru sig 2;pad thru hv 3;keepout vias mid 5 8 14 12;keepout wires top 0 1 2 3;";
+
+/// The gaps on the first layer: of the first class to itself and to the second, and of the second to
+/// the first and to itself.
+fn gaps_on_top(board: &Board) -> Option<[i32; 4]> {
+    if board.layers() < 1 || board.classes() < 2 {
+        return None;
+    }
+    let top = LayerId(0);
+    let sig = ClassId(0);
+    let hv = ClassId(1);
+    Some([
+        board.gap(top, sig, sig),
+        board.gap(top, sig, hv),
+        board.gap(top, hv, sig),
+        board.gap(top, hv, hv),
+    ])
+}
+
+/// The pad and the inner pad of the first kind for the first class, and those for the second.
+fn halves_of_thru(board: &Board) -> Option<[i32; 4]> {
+    if board.kinds() < 1 || board.classes() < 2 {
+        return None;
+    }
+    let thru = KindId(0);
+    let sig = ClassId(0);
+    let hv = ClassId(1);
+    Some([
+        board.pad(thru, sig),
+        board.inner(thru, sig),
+        board.pad(thru, hv),
+        board.inner(thru, hv),
+    ])
+}
+
+/// The wide board with further lines.
+fn wide(alloc: Global, lines: &str) -> Result<Input, Fail> {
+    let mut bytes = Vec::new(alloc);
+    add(&mut bytes, WIDE, b';', b"\n")?;
+    add(&mut bytes, lines, b';', b"\n")?;
+    add(&mut bytes, "end;", b';', b"\n")?;
+    match read_input(alloc, &bytes) {
+        Ok(input) => Ok(input),
+        Err(_) => Err("the text is read".into()),
+    }
+}
+
+#[test]
+fn fills_in_gaps_and_inner_pads(rt: HostRuntime) -> Result<(), Fail> {
+    for (lines, gaps, halves) in [
+        ("", [2, 4, 4, 4], [2, 2, 3, 3]),
+        ("clear top hv sig 9;", [2, 9, 9, 4], [2, 2, 3, 3]),
+        ("clear top sig hv 1;", [2, 1, 1, 4], [2, 2, 3, 3]),
+        ("clear top sig sig 7;", [7, 4, 4, 4], [2, 2, 3, 3]),
+        ("clear mid sig hv 9;", [2, 4, 4, 4], [2, 2, 3, 3]),
+        ("inner thru sig 1;", [2, 4, 4, 4], [2, 1, 3, 3]),
+        ("inner thru hv 9;", [2, 4, 4, 4], [2, 2, 3, 9]),
+    ] {
+        let input = wide(rt.alloc(), lines)?;
+        assert_eq!(rt; gaps_on_top(&input.board), Some(gaps), "{lines}");
+        assert_eq!(rt; halves_of_thru(&input.board), Some(halves), "{lines}");
+    }
+    Ok(())
+}
+
+#[test]
+fn reads_keepouts_in_order(rt: HostRuntime) -> Result<(), Fail> {
+    let input = wide(rt.alloc(), "")?;
+    let mut seen = Vec::new(rt.alloc());
+    for keepout in input.board.keepouts() {
+        let area = keepout.area;
+        seen.push((keepout.wires, keepout.layer.0, area.x0, area.y1))?;
+    }
+    let wanted = [(false, 1, 5, 12), (true, 0, 0, 3)];
+    assert_eq!(rt; seen.as_slice(), wanted.as_slice());
     Ok(())
 }

@@ -11,6 +11,8 @@ pub enum Request {
     Run { quiet: bool },
     /// Read a board text and the text of replies to its commands, and say whether they are right.
     Check,
+    /// Read a board text and write its board and commands as a text of the second version.
+    Upgrade,
     /// Write the generated board text of so many nets, from 1 to 2,000.
     Gen(u32),
     /// Write the replies to the commands of that text, and a summary of them.
@@ -83,6 +85,7 @@ pub fn request_of(words: &[String]) -> Option<Request>
     match words {
         [word] if word.as_str() == "run" => Some(Request::Run { quiet: false }),
         [word] if word.as_str() == "check" => Some(Request::Check),
+        [word] if word.as_str() == "upgrade" => Some(Request::Upgrade),
         [word, flag] if are_quiet_run(word.as_str(), flag.as_str()) => {
             Some(Request::Run { quiet: true })
         }

@@ -28,14 +28,24 @@ const FOUND: &str =
 5 10|block top 10 8 30 10;net a sig;pin a 18 3 18 3 top top;pin a 30 16 30 16 top top;end;route a;|conn 1 31 ;cert 31 ; top 1 13 39 13 
 5 10|block top 10 6 30 6;block top 0 14 30 14;net a sig;pin a 18 2 18 2 top top;pin a 20 18 20 18 top top;end;route a;|conn 1 44 ;cert 44 ; top 1 9 39 11 7 9 7 9 18; top 1 9 39 11 33 9 33 9 22
 5 10|block top 18 0 22 20;net a sig;net b sig;pin a 4 9 6 11 top top;pin a 34 9 36 11 top top;pin b 4 4 4 4 top top;pin b 10 4 10 4 top top;end;all;|all 2;route a made 0 of 1;none 1;cert - ;route b made 1 of 1;conn 1 6 1;cert 6 
-1 10|board 1 big 1048576 1048576;layer top;class sig;rule top sig 65535 65535;net a sig;pin a 65535 65535 65535 65535 top top;pin a 983041 983041 983041 983041 top top;end;route a;|conn 1 1835012 ;cert 1835012 ";
+1 10|board 1 big 1048576 1048576;layer top;class sig;rule top sig 65535 65535;net a sig;pin a 65535 65535 65535 65535 top top;pin a 983041 983041 983041 983041 top top;end;route a;|conn 1 1835012 ;cert 1835012 
+1 10|board 1 b 40 20;layer top;layer mid;layer bot;class sig;rule top sig 1 2;rule mid sig 1 2;rule bot sig 1 2;viakind thru bot top 5;pad thru sig 2;inner thru sig 1;block mid 5 8 14 12;net a sig;pin a 10 10 10 10 top top;pin a 17 10 17 10 bot bot;pin a 22 10 22 10 mid mid;end;route a;|route a made 2 of 2;conn 1 12 ;cert 12 ;conn 2 5 ;cert 5 
+5 10|keepout wires top 18 0 22 14;net a sig;pin a 4 9 6 11 top top;pin a 34 9 36 11 top top;end;route a;|conn 1 38 ;cert 38 
+5 10|keepout vias top 18 0 22 14;net a sig;pin a 4 9 6 11 top top;pin a 34 9 36 11 top top;end;route a;|conn 1 28 ;cert 28 
+1 10|board 2 demo 40 20;layer top;class sig;class hv;rule top sig 1 2;rule top hv 1 2;net b hv;pin b 18 0 22 14 top top;net a sig;pin a 4 9 6 11 top top;pin a 34 9 36 11 top top;end;route a;|conn 1 40 ;cert 40 
+1 10|board 2 demo 40 20;layer top;class sig;class hv;rule top sig 1 2;rule top hv 1 2;clear top hv sig 1;net b hv;pin b 18 0 22 14 top top;net a sig;pin a 4 9 6 11 top top;pin a 34 9 36 11 top top;end;route a;|conn 1 38 ;cert 38 
+1 10|board 2 demo 40 20;layer top;class sig;class hv;rule top sig 1 2;rule top hv 1 2;clear top sig hv 3;net b hv;pin b 18 0 22 14 top top;net a sig;pin a 4 9 6 11 top top;pin a 34 9 36 11 top top;end;route a;|conn 1 42 ;cert 42 
+1 10|board 2 demo 40 20;layer top;class sig;class hv;rule top sig 1 2;rule top hv 1 2;clear top sig hv 4;net b hv;pin b 18 0 22 14 top top;net a sig;pin a 4 9 6 11 top top;pin a 34 9 36 11 top top;end;route a;|conn 1 44 ;cert 44 
+1 10|board 2 demo 40 20;layer top;class sig;class hv;rule top sig 1 2;rule top hv 1 2;clear top sig hv 6;net b hv;pin b 18 0 22 14 top top;net a sig;pin a 4 9 6 11 top top;pin a 34 9 36 11 top top;end;route a;|route a made 0 of 1;none 1;cert - 
+1 10|board 2 big 8388608 8388608;layer top;class sig;rule top sig 65535 65535;net a sig;pin a 65535 65535 65535 65535 top top;pin a 8323073 8323073 8323073 8323073 top top;end;route a;|conn 1 16515076 ;cert 16515076 ";
 
 /// The cases in the same form, whose quiet output has these lines and no others.
 const QUIET: &str =
     "5 10|block top 18 0 22 17;net a sig;pin a 4 9 6 11 top top;pin a 34 9 36 11 top top;end;route a;|route a made 0 of 1;none 1;
 5 10|net a sig;pin a 4 10 4 10 top top;pin a 34 10 34 10 top top;pin a 20 16 20 16 top top;end;route a;|route a made 2 of 2;conn 1 30 1;at 4 10 top;to 34 10 top;conn 2 6 1;at 20 10 top;to 20 16 top;
 5 10|net a sig;net b sig;pin a 5 8 5 8 top top;pin a 30 8 30 8 top top;pin b 5 12 5 12 top top;pin b 30 12 30 12 top top;end;route a;route b;rip a;strips top sig;|route a made 1 of 1;conn 1 25 1;at 5 8 top;to 30 8 top;route b made 1 of 1;conn 1 25 1;at 5 12 top;to 30 12 top;rip a removed 1;strips top sig 19;many 0 0 40 0;many 0 1 0 19;free 1 1 39 5;many 40 1 40 19;free 1 6 2 8;one a 3 6 7 8;free 8 6 27 8;one a 28 6 32 8;free 33 6 39 8;free 1 9 1 15;one b 2 9 2 10;many 3 9 7 10;one b 8 9 27 10;many 28 9 32 10;one b 33 9 33 10;free 34 9 39 15;one b 2 11 33 15;free 1 16 39 19;many 0 20 40 20;
-1 10|board 1 big 1048576 1048576;layer top;class sig;rule top sig 65535 65535;block top 0 500000 1048576 500000;net a sig;pin a 65535 65535 65535 65535 top top;pin a 983041 983041 983041 983041 top top;end;route a;|route a made 0 of 1;none 1;";
+1 10|board 1 big 1048576 1048576;layer top;class sig;rule top sig 65535 65535;block top 0 500000 1048576 500000;net a sig;pin a 65535 65535 65535 65535 top top;pin a 983041 983041 983041 983041 top top;end;route a;|route a made 0 of 1;none 1;
+1 10|board 1 b 40 20;layer top;layer mid;layer bot;class sig;rule top sig 1 2;rule mid sig 1 2;rule bot sig 1 2;viakind thru bot top 5;pad thru sig 2;block mid 5 8 14 12;net a sig;pin a 10 10 10 10 top top;pin a 17 10 17 10 bot bot;pin a 22 10 22 10 mid mid;end;route a;|route a made 2 of 2;conn 1 14 3;at 10 10 top;to 18 10 top;via thru 18 10 bot;to 17 10 bot;conn 2 4 1;at 18 10 mid;to 22 10 mid;";
 
 /// Asserts that some lines of the output have these parts, in this order.
 fn has_in_order(rt: &impl Abort, out: &str, wanted: &str) {

@@ -78,7 +78,7 @@ free 1 17 39 19
 many 0 20 40 20
 ";
 
-const USAGE: &str = "usage: contour run [--quiet] / check / gen N / demo N\n";
+const USAGE: &str = "usage: contour run [--quiet] / check / upgrade / gen N / demo N\n";
 
 /// A text with one of its lines, counted from 1, replaced or, by an empty text, left out.
 pub fn with_line(alloc: Global, text: &str, number: usize, line: &str) -> Result<String, Fail> {

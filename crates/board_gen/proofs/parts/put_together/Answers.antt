@@ -7,5 +7,5 @@ pub returns : goal.returns
 returns c =
     let few = c.requires.few in
     let height : to_z w32 (of_z w32 c.height.result) ≡ pos (100 * c.args.n + 200) = omega (arith, ints, c.height.ensures, few) in
-    same-board c.args.n _ _ _ _ _ _ _ _ _ _ _ _ c.requires.name height c.requires.layers c.requires.classes c.requires.rules c.requires.kind_names c.requires.kinds c.requires.pads
-    c.requires.blocks c.requires.net_names c.requires.net_classes c.requires.pins
+    same-board c.args.n _ _ _ _ _ _ _ _ _ _ _ _ _ _ _ c.requires.name height c.requires.layers c.requires.classes c.requires.rules c.requires.gaps c.requires.kind_names c.requires.kinds c.requires.pads c.requires.inners
+    c.requires.blocks c.new.ensures c.requires.net_names c.requires.net_classes c.requires.pins

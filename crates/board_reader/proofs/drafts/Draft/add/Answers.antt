@@ -1,6 +1,6 @@
 use Rattle.std.proofs.Common.{◌≡◌, OnOk, subst, arith}
 use Rattle.board_reader.specs.declared.forms.Form.TheVariants as form
-use Rattle.board_reader.proofs.Adding.{command-form, command-stage, board-version, board-width, board-height, layer-fresh, class-fresh, kind-fresh, net-fresh, rule-half, rule-gap, kind-charge, pad-half, block-corners, pin-corners, short-corners, ascii-word, as-form}
+use Rattle.board_reader.proofs.Adding.{command-form, command-stage, board-version, board-width, board-height, layer-fresh, class-fresh, kind-fresh, net-fresh, rule-half, rule-gap, clear-gap, kind-charge, pad-half, inner-half, block-corners, keepout-corners, pin-corners, short-corners, ascii-word, as-form}
 use Rattle.board_reader.proofs.Unbroken.{stands}
 use Rattle.board_reader.proofs.drafts.Draft.add.Goals as goal
 
@@ -60,6 +60,13 @@ add_rule-requires-clause-gap c =
     let h = as-form d c.args.form form.Rule ws c.in-Rule.is c.requires.passes in
     omega (arith, (rule-gap d ws h).1)
 
+pub add_clear-requires : goal.add_clear-requires
+add_clear-requires c =
+    let d = c.args.self.now in
+    let ws = c.args.words.now in
+    let h = as-form d c.args.form form.Clear ws c.in-Clear.is c.requires.passes in
+    omega (arith, (clear-gap d ws h).1)
+
 pub add_kind-requires-clause-fresh : goal.add_kind-requires-clause-fresh
 add_kind-requires-clause-fresh c =
     let d = c.args.self.now in
@@ -81,12 +88,26 @@ add_pad-requires c =
     let h = as-form d c.args.form form.Pad ws c.in-Pad.is c.requires.passes in
     omega (arith, (pad-half d ws h).1)
 
+pub add_inner-requires : goal.add_inner-requires
+add_inner-requires c =
+    let d = c.args.self.now in
+    let ws = c.args.words.now in
+    let h = as-form d c.args.form form.Inner ws c.in-Inner.is c.requires.passes in
+    omega (arith, (inner-half d ws h).1)
+
 pub add_block-requires : goal.add_block-requires
 add_block-requires c =
     let d = c.args.self.now in
     let ws = c.args.words.now in
     let h = as-form d c.args.form form.Block ws c.in-Block.is c.requires.passes in
-    short-corners d ws c.requires.draft (stands h) (block-corners d ws h)
+    short-corners d ws 2 c.requires.draft (stands h) (block-corners d ws h)
+
+pub add_keepout-requires : goal.add_keepout-requires
+add_keepout-requires c =
+    let d = c.args.self.now in
+    let ws = c.args.words.now in
+    let h = as-form d c.args.form form.Keepout ws c.in-Keepout.is c.requires.passes in
+    short-corners d ws 3 c.requires.draft (stands h) (keepout-corners d ws h)
 
 pub add_net-requires-clause-fresh : goal.add_net-requires-clause-fresh
 add_net-requires-clause-fresh c =
@@ -100,7 +121,7 @@ add_pin-requires c =
     let d = c.args.self.now in
     let ws = c.args.words.now in
     let h = as-form d c.args.form form.Pin ws c.in-Pin.is c.requires.passes in
-    short-corners d ws c.requires.draft (stands h) (pin-corners d ws h)
+    short-corners d ws 2 c.requires.draft (stands h) (pin-corners d ws h)
 
 pub returns-in-Route : goal.returns-in-Route
 returns-in-Route c =

@@ -11,4 +11,4 @@ returns-clause-parts c =
     let h = has-begun d c.requires.draft c.requires.ended in
     let width : to_z w32 (of_z w32 c.signed-width.result) ≡ pos d.heading.width = omega (arith, ints, h.width.to) in
     let height : to_z w32 (of_z w32 c.signed-height.result) ≡ pos d.heading.height = omega (arith, ints, h.height.to) in
-    same-parts d _ _ _ _ _ width height c.requires.names c.requires.rules c.requires.pads
+    same-parts d _ _ _ _ _ _ _ width height c.requires.names c.requires.rules c.requires.gaps c.requires.pads c.requires.inners
