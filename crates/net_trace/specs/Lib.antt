@@ -1,0 +1,5 @@
+pub mod Flooding
+pub mod Listing
+pub mod Pieces
+pub mod Report
+pub mod Touching
