@@ -9,16 +9,16 @@ use Rattle.std.proofs.lemmas.Int.{ints}
 use Rattle.std.proofs.lemmas.List.Elements.{All-nil, All-cons, All-append, All-from_recursion}
 use Rattle.std.proofs.lemmas.List.FromFn.{get_or-map-range_with_len, length-map-range_with_len}
 use Rattle.geo_rect.specs.declared.ids.ClassId.{ClassId}
-use Rattle.board_model.specs.Commands.{IsCommandOf}
-use Rattle.board_model.specs.Lookup.{layer_at, rule_of, gap_of}
-use Rattle.board_model.specs.Rules.{IsBoard, IsBlock, IsKeepout, IsPin, IsKind, IsRule, IsMeasure, IsName, AreNames, IsOnBoard, IsWordByte}
-use Rattle.board_model.specs.declared.commands.Command.TheVariants as command
-use Rattle.board_model.specs.declared.parts.Block.{Block}
-use Rattle.board_model.specs.declared.parts.BoardParts.{BoardParts}
-use Rattle.board_model.specs.declared.parts.Keepout.{Keepout}
-use Rattle.board_model.specs.declared.parts.Pin.{Pin}
-use Rattle.board_model.specs.declared.parts.Rule.{Rule}
-use Rattle.board_model.specs.declared.parts.ViaKind.{ViaKind}
+use Rattle.board_parts.specs.Commands.{IsCommandOf}
+use Rattle.board_parts.specs.Lookup.{layer_at, rule_of, gap_of}
+use Rattle.board_parts.specs.Rules.{IsBoard, IsBlock, IsKeepout, IsPin, IsKind, IsRule, IsMeasure, IsName, AreNames, IsOnBoard, IsWordByte}
+use Rattle.board_parts.specs.declared.commands.Command.TheVariants as command
+use Rattle.board_parts.specs.declared.parts.Block.{Block}
+use Rattle.board_parts.specs.declared.parts.BoardParts.{BoardParts}
+use Rattle.board_parts.specs.declared.parts.Keepout.{Keepout}
+use Rattle.board_parts.specs.declared.parts.Pin.{Pin}
+use Rattle.board_parts.specs.declared.parts.Rule.{Rule}
+use Rattle.board_parts.specs.declared.parts.ViaKind.{ViaKind}
 use Rattle.board_reader.specs.Lines.{is_word_byte}
 use Rattle.board_reader.specs.Reading.{reading}
 use Rattle.board_text.specs.declared.spelling.Version.TheVariants.{First}

@@ -1,6 +1,6 @@
 ghost use Rattle.std.specs.Prelude.{◌≡◌, ◌≤◌, ◌+◌, ◌*◌, ◌++◌, ◌∷◌, [], IfOk, OnOk, codes, decimal, map, pos};
 ghost use Rattle.std.specs.List.{flat_map, range_with_len};
-ghost use Rattle.board_model.specs.Lookup.{layer_at};
+ghost use Rattle.board_parts.specs.Lookup.{layer_at};
 ghost use Rattle.board_text.specs.Spelled.{class_at};
 ghost use Rattle.board_gen.specs.Generated.{wire, block_of, net_name_of, pins_of, generated_board};
 

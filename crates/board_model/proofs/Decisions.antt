@@ -3,8 +3,8 @@ use Rattle.std.proofs.Common.{pos, Decides}
 use Rattle.std.proofs.lemmas.Bool.Decides.{Decides-and, Decides-like}
 use Rattle.geo_rect.specs.declared.shapes.Rect.{Rect}
 use Rattle.geo_rect.proofs.Tests.{Decides-int_le}
-use Rattle.board_model.specs.declared.parts.BoardParts.{BoardParts}
-use Rattle.board_model.specs.Rules.{IsOnBoard}
+use Rattle.board_parts.specs.declared.parts.BoardParts.{BoardParts}
+use Rattle.board_parts.specs.Rules.{IsOnBoard}
 use Rattle.board_model.specs.Spacing.{keeps_outline}
 
 pub Decides-keeps_outline : (b : BoardParts) (r : Rect) → Decides (keeps_outline b r) (IsOnBoard b.width b.height r)

@@ -7,12 +7,12 @@ use Rattle.geo_rect.specs.declared.ids.KindId.{KindId}
 use Rattle.geo_rect.specs.declared.ids.LayerId.{LayerId}
 use Rattle.geo_rect.specs.declared.shapes.Point.{Point}
 use Rattle.geo_rect.specs.Plane.{IsTooClose, square}
-use Rattle.board_model.specs.declared.parts.BoardParts.{BoardParts}
-use Rattle.board_model.specs.declared.parts.Keepout.{Keepout}
-use Rattle.board_model.specs.declared.parts.ViaKind.{ViaKind}
+use Rattle.board_parts.specs.declared.parts.BoardParts.{BoardParts}
+use Rattle.board_parts.specs.declared.parts.Keepout.{Keepout}
+use Rattle.board_parts.specs.declared.parts.ViaKind.{ViaKind}
 use Rattle.board_model.specs.declared.shapes.Shape.{Shape}
-use Rattle.board_model.specs.Lookup.{rule_of, pad_on, kind_of}
-use Rattle.board_model.specs.Spacing.{gap_to}
+use Rattle.board_parts.specs.Lookup.{rule_of, pad_on, kind_of}
+use Rattle.board_parts.specs.Gaps.{gap_to}
 use Rattle.board_model.specs.Labels.{Hits, Shuts, IsInSpan, is_in_span, wire_plane, via_plane}
 
 counted : (t : Bool) (g : ℤ) (P : ℤ → Type 0) → IsSomeAnd (cond t (Some g) None) P → (t ≡ true) × P g

@@ -9,7 +9,7 @@ use Rattle.geo_rect.specs.declared.ids.Label.{Label}
 use Rattle.geo_rect.specs.declared.ids.Label.TheVariants.{Free, One, Many}
 use Rattle.geo_rect.specs.declared.ids.NetId.{NetId}
 use Rattle.geo_rect.specs.declared.shapes.Point.{Point}
-use Rattle.board_model.specs.declared.parts.BoardParts.{BoardParts}
+use Rattle.board_parts.specs.declared.parts.BoardParts.{BoardParts}
 use Rattle.board_model.specs.declared.shapes.Shape.{Shape}
 use Rattle.board_model.specs.Labels.{PlaneRule, Hits, IsAllowed, is_allowed, does_hit, joined, with_shape, bare_label, label_among, IsHitBy, IsFree, IsLeftTo, IsTakenBy, IsBarred, Admits}
 use Rattle.board_model.proofs.LabelTests.{Decides-does_hit, Decides-is_allowed}

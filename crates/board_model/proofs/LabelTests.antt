@@ -8,8 +8,8 @@ use Rattle.geo_rect.specs.declared.shapes.Point.{Point}
 use Rattle.geo_rect.specs.declared.shapes.Rect.{Rect}
 use Rattle.geo_rect.specs.Plane.{IsTooClose, square}
 use Rattle.geo_rect.proofs.Tests.{Decides-are_too_close}
-use Rattle.board_model.specs.declared.parts.BoardParts.{BoardParts}
-use Rattle.board_model.specs.declared.parts.Keepout.{Keepout}
+use Rattle.board_parts.specs.declared.parts.BoardParts.{BoardParts}
+use Rattle.board_parts.specs.declared.parts.Keepout.{Keepout}
 use Rattle.board_model.specs.declared.shapes.Shape.{Shape}
 use Rattle.board_model.specs.Labels.{PlaneRule, Hits, Shuts, IsAllowed, breaks_kept_gap, does_hit, does_shut, is_allowed}
 use Rattle.board_model.proofs.Decisions.{Decides-keeps_outline}

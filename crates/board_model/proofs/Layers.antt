@@ -4,7 +4,7 @@ use Rattle.std.specs.List.{range_with_len}
 use Rattle.std.proofs.lemmas.List.{map_push}
 use Rattle.std.proofs.lemmas.List.FromFn.{map-range_with_len_more}
 use Rattle.geo_rect.specs.declared.ids.LayerId.{LayerId}
-use Rattle.board_model.specs.Lookup.{layer_at}
+use Rattle.board_parts.specs.Lookup.{layer_at}
 
 layers_more : {X : Type 0} (g : LayerId → X) (a n i : ℕ) → a + n ≡ i → map g (map layer_at (range_with_len a (n + 1))) ≡ map g (map layer_at (range_with_len a n)) ++ g (layer_at i) ∷ []
 layers_more g a n i e =

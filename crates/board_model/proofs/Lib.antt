@@ -1,16 +1,13 @@
 pub mod Counting
 pub mod Decisions
-pub mod Filtered
 pub mod LabelHits
 pub mod LabelLaws
 pub mod LabelTests
 pub mod Layers
 pub mod MadeShapes
 pub mod NameLists
-pub mod NameTables
 pub mod OwnersGap
-pub mod Squares
 pub mod SquareFits
+pub mod Squares
 pub mod StateShapes
-pub mod Tables
 pub mod WellFormed

@@ -13,15 +13,15 @@ use Rattle.geo_rect.specs.declared.ids.NetId.{NetId}
 use Rattle.geo_rect.specs.declared.ids.Node.{Node}
 use Rattle.geo_rect.specs.declared.shapes.Point.{Point}
 use Rattle.geo_rect.specs.Plane.{square}
-use Rattle.board_model.specs.declared.parts.BoardParts.{BoardParts}
-use Rattle.board_model.specs.declared.parts.ViaKind.{ViaKind}
+use Rattle.board_parts.specs.declared.parts.BoardParts.{BoardParts}
+use Rattle.board_parts.specs.declared.parts.ViaKind.{ViaKind}
 use Rattle.board_model.specs.declared.shapes.Shape.{Shape}
 use Rattle.board_model.specs.declared.made.Conn.{Conn}
 use Rattle.board_model.specs.declared.made.Leg.{Leg}
 use Rattle.board_model.specs.declared.made.Leg.TheVariants.{Wire, Via}
 use Rattle.board_model.specs.Known.{IsNearZero, IsNearOrigin, IsKnown}
-use Rattle.board_model.specs.Lookup.{rule_of, gap_of, pad_of, inner_of, pad_on, kind_of, class_of, layer_at, layers_from}
-use Rattle.board_model.specs.Rules.{IsBoard, IsMeasure, IsRule, IsKind}
+use Rattle.board_parts.specs.Lookup.{rule_of, gap_of, pad_of, inner_of, pad_on, kind_of, class_of, layer_at, layers_from}
+use Rattle.board_parts.specs.Rules.{IsBoard, IsMeasure, IsRule, IsKind}
 use Rattle.board_model.specs.Segments.{stretch, segment}
 use Rattle.board_model.specs.Shapes.{place_of, end_of, net_shape, via_shape, leg_shapes, legs_shapes, conn_shapes, made_shapes, board_shapes, state_shapes}
 use Rattle.board_model.specs.WellFormed.{IsCoordinate, IsPlace, IsCorner, IsStep, AreSteps, IsWellFormed, AreWellFormed}

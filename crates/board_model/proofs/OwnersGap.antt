@@ -4,11 +4,11 @@ use Rattle.std.proofs.lemmas.List.Elements.{All-get_or}
 use Rattle.geo_rect.specs.declared.ids.ClassId.{ClassId}
 use Rattle.geo_rect.specs.declared.ids.LayerId.{LayerId}
 use Rattle.geo_rect.specs.declared.ids.NetId.{NetId}
-use Rattle.board_model.specs.declared.parts.BoardParts.{BoardParts}
-use Rattle.board_model.specs.Known.{IsOwner}
-use Rattle.board_model.specs.Lookup.{class_of}
-use Rattle.board_model.specs.Rules.{IsBoard}
-use Rattle.board_model.specs.Spacing.{gap_between}
+use Rattle.board_parts.specs.declared.parts.BoardParts.{BoardParts}
+use Rattle.board_parts.specs.Owners.{IsOwner}
+use Rattle.board_parts.specs.Lookup.{class_of}
+use Rattle.board_parts.specs.Rules.{IsBoard}
+use Rattle.board_parts.specs.Gaps.{gap_between}
 
 -- the class of a net is one of the board's
 pub class_known : (b : BoardParts) → IsBoard b → (n : NetId) → n.0 < length b.net_names → (class_of b n).0 < length b.classes

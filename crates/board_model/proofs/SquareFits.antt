@@ -10,10 +10,10 @@ use Rattle.geo_rect.specs.declared.ids.LayerId.{LayerId}
 use Rattle.geo_rect.specs.declared.shapes.Point.{Point}
 use Rattle.geo_rect.specs.Plane.{square}
 use Rattle.geo_rect.proofs.Tests.{Decides-int_le}
-use Rattle.board_model.specs.declared.parts.BoardParts.{BoardParts}
+use Rattle.board_parts.specs.declared.parts.BoardParts.{BoardParts}
 use Rattle.board_model.specs.Labels.{IsInSpan, FitsBoard, via_plane}
-use Rattle.board_model.specs.Lookup.{kind_of, pad_of, inner_of, pad_on}
-use Rattle.board_model.specs.Rules.{IsBoard, IsKind, IsMeasure, IsOnBoard}
+use Rattle.board_parts.specs.Lookup.{kind_of, pad_of, inner_of, pad_on}
+use Rattle.board_parts.specs.Rules.{IsBoard, IsKind, IsMeasure, IsOnBoard}
 use Rattle.board_model.proofs.MadeShapes.{kind_is, pad_is, inner_is}
 
 smaller_square : (w h : ℤ) (p : Point) (a c : ℤ) → IsMeasure a → a ≤ℤ c → IsOnBoard w h (square p c) → IsOnBoard w h (square p a)

@@ -6,13 +6,13 @@ use Rattle.std.proofs.lemmas.List.Elements.{All-nil, All-head, All-tail, All-app
 use Rattle.std.proofs.lemmas.List.FromFn.{length-range_with_len, get_or-range_with_len}
 use Rattle.geo_rect.specs.declared.ids.LayerId.{LayerId}
 use Rattle.geo_rect.specs.declared.shapes.Rect.{Rect}
-use Rattle.board_model.specs.declared.parts.BoardParts.{BoardParts}
-use Rattle.board_model.specs.declared.parts.Block.{Block}
-use Rattle.board_model.specs.declared.parts.Pin.{Pin}
+use Rattle.board_parts.specs.declared.parts.BoardParts.{BoardParts}
+use Rattle.board_parts.specs.declared.parts.Block.{Block}
+use Rattle.board_parts.specs.declared.parts.Pin.{Pin}
 use Rattle.board_model.specs.declared.made.Conn.{Conn}
 use Rattle.board_model.specs.Known.{IsNearOrigin, IsKnown}
-use Rattle.board_model.specs.Lookup.{layer_at, layers_from}
-use Rattle.board_model.specs.Rules.{IsBoard, IsSide, IsOnBoard, IsBlock, IsPin}
+use Rattle.board_parts.specs.Lookup.{layer_at, layers_from}
+use Rattle.board_parts.specs.Rules.{IsBoard, IsSide, IsOnBoard, IsBlock, IsPin}
 use Rattle.board_model.specs.Shapes.{block_shape, net_shape, pin_shapes, board_shapes, made_shapes, state_shapes}
 
 pub All-flat_map : {X A : Type 0} (P : A → Type 0) (f : X → List A) (xs : List X) → All (λ x. All P (f x)) xs → All P (flat_map f xs)

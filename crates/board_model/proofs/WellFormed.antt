@@ -2,7 +2,7 @@
 use Rattle.std.proofs.Common.{◌≡◌, ◌<◌, List, [], length, All, sym, subst}
 use Rattle.std.proofs.lemmas.List.Elements.{All-nil, All-push, All-get_or, All-set, All-weaker}
 use Rattle.geo_rect.specs.declared.ids.NetId.{NetId}
-use Rattle.board_model.specs.declared.parts.BoardParts.{BoardParts}
+use Rattle.board_parts.specs.declared.parts.BoardParts.{BoardParts}
 use Rattle.board_model.specs.declared.made.Conn.{Conn}
 use Rattle.board_model.specs.Made.{conns_of, with_conn}
 use Rattle.board_model.specs.WellFormed.{IsWellFormed, AreWellFormed}

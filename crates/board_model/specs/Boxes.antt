@@ -11,9 +11,9 @@ use Rattle.geo_rect.specs.Plane.{lone}
 use Rattle.board_model.specs.declared.made.Conn.{Conn}
 use Rattle.board_model.specs.declared.made.Leg.{Leg}
 use Rattle.board_model.specs.declared.made.Leg.TheVariants.{Wire, Via}
-use Rattle.board_model.specs.declared.parts.BoardParts.{BoardParts}
-use Rattle.board_model.specs.declared.parts.Pin.{Pin}
-use Rattle.board_model.specs.Lookup.{kind_of, layers_from, pins_of}
+use Rattle.board_parts.specs.declared.parts.BoardParts.{BoardParts}
+use Rattle.board_parts.specs.declared.parts.Pin.{Pin}
+use Rattle.board_parts.specs.Lookup.{kind_of, layers_from, pins_of}
 use Rattle.board_model.specs.Made.{conns_of}
 use Rattle.board_model.specs.Segments.{segment}
 use Rattle.board_model.specs.Shapes.{place_of, end_of}

@@ -1,9 +1,9 @@
 -- The rules of a board, by the lists that they speak of, as they are tested one after another.
 use Rattle.std.specs.Prelude.{◌≡◌, ◌+◌, ◌*◌, ◌<◌, ◌≤◌, length, All}
 use Rattle.geo_rect.specs.declared.ids.ClassId.{ClassId}
-use Rattle.board_model.specs.declared.limits.TheConstants.{MAX_LAYERS, MAX_CLASSES, MAX_KINDS, MAX_NETS, MAX_PINS, MAX_BLOCKS}
-use Rattle.board_model.specs.declared.parts.BoardParts.{BoardParts}
-use Rattle.board_model.specs.Rules.{IsName, IsSide, AreNames, IsRule, IsKind, IsMeasure, IsBlock, IsKeepout, IsPin, IsGapOfPairs, IsPlainWithoutInner}
+use Rattle.board_parts.specs.declared.limits.TheConstants.{MAX_LAYERS, MAX_CLASSES, MAX_KINDS, MAX_NETS, MAX_PINS, MAX_BLOCKS}
+use Rattle.board_parts.specs.declared.parts.BoardParts.{BoardParts}
+use Rattle.board_parts.specs.Rules.{IsName, IsSide, AreNames, IsRule, IsKind, IsMeasure, IsBlock, IsKeepout, IsPin, IsGapOfPairs, IsPlainWithoutInner}
 
 -- the board's own name, and its size
 pub record HasFrame (b : BoardParts) : Type 0 where

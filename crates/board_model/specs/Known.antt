@@ -1,17 +1,12 @@
 -- What every shape of a board has.
-use Rattle.std.specs.Prelude.{◌<◌, ◌≤ℤ◌, ◌^◌, ◌+◌, pos, length, Option, Some, None, ⊤}
+use Rattle.std.specs.Prelude.{◌<◌, ◌≤ℤ◌, ◌^◌, ◌+◌, pos, length}
 use Rattle.std.proofs.Common.{neg_ℤ}
-use Rattle.geo_rect.specs.declared.ids.NetId.{NetId}
 use Rattle.geo_rect.specs.declared.shapes.Interval.{Interval}
 use Rattle.geo_rect.specs.declared.shapes.Rect.{Rect}
 use Rattle.geo_rect.specs.Plane.{columns, rows}
-use Rattle.board_model.specs.declared.parts.BoardParts.{BoardParts}
+use Rattle.board_parts.specs.declared.parts.BoardParts.{BoardParts}
+use Rattle.board_parts.specs.Owners.{IsOwner}
 use Rattle.board_model.specs.declared.shapes.Shape.{Shape}
-
--- the owner is a net of the board, or no net
-abbrev pub IsOwner : BoardParts → Option NetId → Type 0
-IsOwner b None = ⊤
-IsOwner b (Some n) = n.0 < length b.net_names
 
 -- the interval lies between -(2^24 + 2^16) and 2^24 + 2^16
 pub record IsNearZero (i : Interval) : Type 0 where

@@ -13,14 +13,15 @@ use Rattle.geo_rect.specs.declared.shapes.Point.{Point}
 use Rattle.geo_rect.specs.declared.shapes.Rect.{Rect}
 use Rattle.geo_rect.specs.Plane.{IsTooClose, square}
 use Rattle.geo_rect.specs.Tests.{are_too_close}
-use Rattle.board_model.specs.declared.parts.BoardParts.{BoardParts}
-use Rattle.board_model.specs.declared.parts.Keepout.{Keepout}
-use Rattle.board_model.specs.declared.parts.ViaKind.{ViaKind}
+use Rattle.board_parts.specs.declared.parts.BoardParts.{BoardParts}
+use Rattle.board_parts.specs.declared.parts.Keepout.{Keepout}
+use Rattle.board_parts.specs.declared.parts.ViaKind.{ViaKind}
 use Rattle.board_model.specs.declared.shapes.Shape.{Shape}
-use Rattle.board_model.specs.Lookup.{rule_of, pad_of, inner_of, pad_on, kind_of, class_of}
-use Rattle.board_model.specs.Rules.{IsOnBoard}
+use Rattle.board_parts.specs.Lookup.{rule_of, pad_of, inner_of, pad_on, kind_of, class_of}
+use Rattle.board_parts.specs.Rules.{IsOnBoard}
 use Rattle.board_model.specs.Shapes.{place_of}
-use Rattle.board_model.specs.Spacing.{gap_to, keeps_outline}
+use Rattle.board_parts.specs.Gaps.{gap_to}
+use Rattle.board_model.specs.Spacing.{keeps_outline}
 
 -- what a plane asks at each of its points
 pub record PlaneRule : Type 0 where

@@ -1,11 +1,8 @@
 pub mod Boxes
-pub mod Commands
 pub mod Groups
 pub mod Known
 pub mod Labels
-pub mod Lookup
 pub mod Made
-pub mod Rules
 pub mod Segments
 pub mod Shapes
 pub mod Spacing

@@ -8,14 +8,14 @@ use Rattle.geo_rect.specs.declared.ids.Node.{Node}
 use Rattle.geo_rect.specs.declared.shapes.Point.{Point}
 use Rattle.geo_rect.specs.declared.shapes.Rect.{Rect}
 use Rattle.geo_rect.specs.Plane.{square}
-use Rattle.board_model.specs.declared.parts.BoardParts.{BoardParts}
-use Rattle.board_model.specs.declared.parts.Block.{Block}
-use Rattle.board_model.specs.declared.parts.Pin.{Pin}
+use Rattle.board_parts.specs.declared.parts.BoardParts.{BoardParts}
+use Rattle.board_parts.specs.declared.parts.Block.{Block}
+use Rattle.board_parts.specs.declared.parts.Pin.{Pin}
 use Rattle.board_model.specs.declared.made.Conn.{Conn}
 use Rattle.board_model.specs.declared.made.Leg.{Leg}
 use Rattle.board_model.specs.declared.made.Leg.TheVariants.{Wire, Via}
 use Rattle.board_model.specs.declared.shapes.Shape.{Shape}
-use Rattle.board_model.specs.Lookup.{rule_of, pad_on, kind_of, class_of, layers_from}
+use Rattle.board_parts.specs.Lookup.{rule_of, pad_on, kind_of, class_of, layers_from}
 use Rattle.board_model.specs.Segments.{segment}
 
 -- where a node stands on its layer

@@ -1,25 +1,11 @@
 -- The rules between shapes: gap and outline.
-use Rattle.std.specs.Prelude.{ℤ, pos, ◌==◌, Bool, true, false, ◌&&◌, not, Option, Some, None, int_le}
-use Rattle.geo_rect.specs.declared.ids.ClassId.{ClassId}
-use Rattle.geo_rect.specs.declared.ids.LayerId.{LayerId}
+use Rattle.std.specs.Prelude.{pos, ◌==◌, Bool, true, false, ◌&&◌, not, Option, Some, None, int_le}
 use Rattle.geo_rect.specs.declared.ids.NetId.{NetId}
 use Rattle.geo_rect.specs.declared.shapes.Rect.{Rect}
 use Rattle.geo_rect.specs.Tests.{are_too_close}
-use Rattle.board_model.specs.declared.parts.BoardParts.{BoardParts}
+use Rattle.board_parts.specs.declared.parts.BoardParts.{BoardParts}
 use Rattle.board_model.specs.declared.shapes.Shape.{Shape}
-use Rattle.board_model.specs.Lookup.{rule_of, gap_of, class_of}
-
--- the gap that a class keeps on a layer to what an owner has: to a net that of the two classes, to a
--- blockage that of the class's rule
-abbrev pub gap_to : BoardParts → LayerId → ClassId → Option NetId → ℤ
-gap_to b l c None = (rule_of b l c).gap
-gap_to b l c (Some n) = gap_of b l c (class_of b n)
-
--- the gap between what two owners have on a layer (blockages keep none to one another)
-abbrev pub gap_between : BoardParts → LayerId → Option NetId → Option NetId → ℤ
-gap_between b l (Some m) o = gap_to b l (class_of b m) o
-gap_between b l None (Some n) = gap_to b l (class_of b n) None
-gap_between b l None None = pos 0
+use Rattle.board_parts.specs.Gaps.{gap_between}
 
 -- whether both are blockages, or both belong to one net
 abbrev pub is_same_owner : Option NetId → Option NetId → Bool

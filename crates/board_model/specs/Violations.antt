@@ -1,6 +1,6 @@
 -- The violations among shapes, in their order.
 use Rattle.std.specs.Prelude.{List, [], ◌∷◌, ◌++◌, map, filter, if◌then◌else◌}
-use Rattle.board_model.specs.declared.parts.BoardParts.{BoardParts}
+use Rattle.board_parts.specs.declared.parts.BoardParts.{BoardParts}
 use Rattle.board_model.specs.declared.shapes.Owned.{Owned}
 use Rattle.board_model.specs.declared.shapes.Shape.{Shape}
 use Rattle.board_model.specs.declared.shapes.Violation.{Violation}

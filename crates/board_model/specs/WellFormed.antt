@@ -8,9 +8,9 @@ use Rattle.geo_rect.specs.declared.shapes.Point.{Point}
 use Rattle.board_model.specs.declared.made.Conn.{Conn}
 use Rattle.board_model.specs.declared.made.Leg.{Leg}
 use Rattle.board_model.specs.declared.made.Leg.TheVariants.{Wire, Via}
-use Rattle.board_model.specs.declared.parts.BoardParts.{BoardParts}
+use Rattle.board_parts.specs.declared.parts.BoardParts.{BoardParts}
 use Rattle.board_model.specs.Labels.{IsInSpan}
-use Rattle.board_model.specs.Lookup.{kind_of}
+use Rattle.board_parts.specs.Lookup.{kind_of}
 use Rattle.board_model.specs.Shapes.{place_of, end_of}
 
 -- a coordinate that a corner may have: it lies between -2^24 and 2^24

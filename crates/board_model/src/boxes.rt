@@ -3,13 +3,13 @@
 ghost use Rattle.std.specs.Prelude.{◌≡◌, ◌++◌, ◌+◌, ◌<◌, ◌≤◌, length, map, take, All, IfOk, OnOk};
 ghost use Rattle.std.specs.List.{flat_map};
 ghost use Rattle.board_model.specs.Boxes.{spot_on, pin_boxes, leg_boxes, conn_boxes, source_boxes, target_boxes};
-ghost use Rattle.board_model.specs.Lookup.{layers_from, pins_of};
+ghost use Rattle.board_parts.specs.Lookup.{layers_from, pins_of};
 ghost use Rattle.board_model.specs.Made.{conns_of};
 ghost use Rattle.board_model.specs.WellFormed.{IsCorner, IsStep, IsWellFormed};
 
-use crate::boards::Board;
 use crate::made::{Conn, Leg, Made};
 use crate::segments::{segment, square};
+use board_parts::Board;
 use geo_rect::{LayerId, List, NetId, NoMemory, Node, Rect, Spot};
 use std::alloc::Global;
 

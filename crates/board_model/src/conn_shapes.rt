@@ -1,14 +1,14 @@
 //! The shapes of a connection: the wires and the pads of its vias.
 
 ghost use Rattle.std.specs.Prelude.{◌≡◌, ◌++◌, ◌<◌, length, map, IfOk, OnOk};
-ghost use Rattle.board_model.specs.Lookup.{kind_of, layers_from};
+ghost use Rattle.board_parts.specs.Lookup.{kind_of, layers_from};
 ghost use Rattle.board_model.specs.Shapes.{place_of, net_shape, via_shape, leg_shapes, conn_shapes};
 ghost use Rattle.board_model.specs.WellFormed.{IsPlace, IsCorner, IsStep, IsWellFormed};
 
-use crate::boards::Board;
 use crate::made::{Conn, Leg};
 use crate::segments::{segment, square};
 use crate::shapes::Shape;
+use board_parts::Board;
 use geo_rect::{KindId, LayerId, List, NetId, NoMemory, Node, Rect};
 use std::alloc::Global;
 

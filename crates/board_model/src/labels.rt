@@ -9,13 +9,13 @@ ghost use Rattle.geo_rect.specs.declared.ids.NetId.{NetId};
 ghost use Rattle.geo_rect.specs.declared.ids.Node.{Node};
 ghost use Rattle.geo_rect.specs.declared.shapes.Point.{Point};
 ghost use Rattle.geo_rect.specs.Plane.{IsTooClose, square};
-ghost use Rattle.board_model.specs.declared.parts.BoardParts.{BoardParts};
-ghost use Rattle.board_model.specs.declared.parts.Keepout.{Keepout};
+ghost use Rattle.board_parts.specs.declared.parts.BoardParts.{BoardParts};
+ghost use Rattle.board_parts.specs.declared.parts.Keepout.{Keepout};
 ghost use Rattle.board_model.specs.declared.shapes.Shape.{Shape};
-ghost use Rattle.board_model.specs.Rules.{IsBoard, IsOnBoard};
-ghost use Rattle.board_model.specs.Lookup.{rule_of, pad_on, kind_of, class_of};
+ghost use Rattle.board_parts.specs.Rules.{IsBoard, IsOnBoard};
+ghost use Rattle.board_parts.specs.Lookup.{rule_of, pad_on, kind_of, class_of};
 ghost use Rattle.board_model.specs.Shapes.{place_of};
-ghost use Rattle.board_model.specs.Spacing.{gap_to};
+ghost use Rattle.board_parts.specs.Gaps.{gap_to};
 ghost use Rattle.board_model.specs.Labels.{PlaneRule, wire_plane, via_plane, IsInSpan, Hits, Shuts, FitsBoard, IsAllowed, joined, label_among, IsFree, IsLeftTo, IsTakenBy, IsBarred, IsPassable, IsViaPassable};
 
 use geo_rect::Label;

@@ -3,7 +3,7 @@ ghost use Rattle.board_model.specs.Made.{conns_of, with_conn, without_conns};
 ghost use Rattle.board_model.specs.Shapes.{end_of};
 ghost use Rattle.board_model.specs.WellFormed.{AreWellFormed};
 
-use crate::boards::Board;
+use board_parts::Board;
 use geo_rect::{KindId, List, NetId, NoMemory, Node};
 use std::alloc::Global;
 

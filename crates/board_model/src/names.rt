@@ -1,7 +1,7 @@
 //! Whether lists of names keep their rules.
 
 ghost use Rattle.std.specs.Prelude.{◌↔◌, ◌≢◌, IsTrue, All, AllPairs, Contains};
-ghost use Rattle.board_model.specs.Rules.{IsName, AreNames};
+ghost use Rattle.board_parts.specs.Rules.{IsName, AreNames};
 
 use crate::rules::is_name;
 use geo_rect::Text;

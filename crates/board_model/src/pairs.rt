@@ -6,11 +6,10 @@ ghost use Rattle.geo_rect.specs.declared.ids.ClassId.{ClassId};
 ghost use Rattle.geo_rect.specs.declared.ids.KindId.{KindId};
 ghost use Rattle.geo_rect.specs.declared.ids.LayerId.{LayerId};
 ghost use Rattle.board_model.specs.Groups.{HasKinds};
-ghost use Rattle.board_model.specs.Lookup.{gap_of, pad_of, inner_of};
-ghost use Rattle.board_model.specs.Rules.{IsMeasure, IsGapOfPairs, HasNoInnerLayer, IsPlainWithoutInner};
+ghost use Rattle.board_parts.specs.Lookup.{gap_of, pad_of, inner_of};
+ghost use Rattle.board_parts.specs.Rules.{IsMeasure, IsGapOfPairs, HasNoInnerLayer, IsPlainWithoutInner};
 
-use crate::limits::{MAX_CLASSES, MAX_LAYERS};
-use crate::parts::BoardParts;
+use board_parts::{BoardParts, MAX_CLASSES, MAX_LAYERS};
 
 /// The gap of two classes on a layer, by their numbers.
 fn gap_at(parts: &BoardParts, layer: usize, c: usize, d: usize) -> i32

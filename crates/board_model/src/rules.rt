@@ -1,10 +1,12 @@
 //! Whether one item of a board keeps its rules.
 
 ghost use Rattle.std.specs.Prelude.{◌↔◌, IsTrue, length, All};
-ghost use Rattle.board_model.specs.Rules.{IsWordByte, IsName, IsSide, IsMeasure, IsRule, IsKind, IsBlock, IsKeepout, IsPin};
+ghost use Rattle.board_parts.specs.Rules.{IsWordByte, IsName, IsSide, IsMeasure, IsRule, IsKind, IsBlock, IsKeepout, IsPin};
 
-use crate::limits::{MAX_CHARGE, MAX_MEASURE, MAX_NAME, MAX_SIDE};
-use crate::parts::{Block, BoardParts, Keepout, Pin, Rule, ViaKind};
+use crate::outlines::has_area;
+use board_parts::{
+    Block, BoardParts, Keepout, MAX_CHARGE, MAX_MEASURE, MAX_NAME, MAX_SIDE, Pin, Rule, ViaKind,
+};
 
 fn is_word_byte(byte: &u8) -> bool
     ensures { IsTrue result ↔ IsWordByte byte.now }
@@ -90,7 +92,7 @@ pub fn is_block(parts: &BoardParts, block: Block) -> bool
     if block.layer.0 as usize >= parts.layers.len() {
         return false;
     }
-    parts.has_area(block.area)
+    has_area(parts, block.area)
 }
 
 pub fn is_keepout(parts: &BoardParts, keepout: Keepout) -> bool
@@ -99,7 +101,7 @@ pub fn is_keepout(parts: &BoardParts, keepout: Keepout) -> bool
     if keepout.layer.0 as usize >= parts.layers.len() {
         return false;
     }
-    parts.has_area(keepout.area)
+    has_area(parts, keepout.area)
 }
 
 pub fn is_pin(parts: &BoardParts, pin: Pin) -> bool
@@ -114,5 +116,5 @@ pub fn is_pin(parts: &BoardParts, pin: Pin) -> bool
     if pin.last.0 as usize >= parts.layers.len() {
         return false;
     }
-    parts.has_area(pin.area)
+    has_area(parts, pin.area)
 }

@@ -6,11 +6,10 @@ ghost use Rattle.board_model.specs.Known.{IsKnown};
 ghost use Rattle.board_model.specs.Shapes.{block_shape, pin_shapes, conn_shapes, state_shapes};
 ghost use Rattle.board_model.specs.WellFormed.{IsWellFormed, AreWellFormed};
 
-use crate::boards::Board;
 use crate::conn_shapes::{push_conn, push_layers};
 use crate::made::{Conn, Made};
-use crate::parts::{Block, Pin};
 use crate::shapes::Shape;
+use board_parts::{Block, Board, Pin};
 use geo_rect::{List, NetId, NoMemory};
 use std::alloc::Global;
 

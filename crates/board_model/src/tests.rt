@@ -1,5 +1,5 @@
-use crate::boards::Board;
-use crate::parts::{Block, BoardParts, Pin, Rule, ViaKind};
+use crate::validity::is_board;
+use board_parts::{Block, Board, BoardParts, Pin, Rule, ViaKind};
 use geo_rect::{ClassId, KindId, LayerId, NetId, NoMemory, Rect, Text};
 use std::alloc::Global;
 use std::test::Fail;
@@ -67,7 +67,7 @@ fn fill(alloc: Global, parts: &mut BoardParts) -> Result<(), NoMemory> {
 /// Whether the lists are those of a board once the width is this.
 fn is_board_of_width(parts: &mut BoardParts, width: i32) -> bool {
     parts.width = width;
-    parts.is_board()
+    is_board(parts)
 }
 
 fn tells_boards(parts: &mut BoardParts) -> bool {
@@ -86,7 +86,7 @@ fn tells_boards(parts: &mut BoardParts) -> bool {
 #[test]
 fn boards_and_broken_boards(rt: HostRuntime) -> Result<(), Fail> {
     let mut parts = BoardParts::new(rt.alloc(), "small", 40, 20)?;
-    assert!(rt; !parts.is_board(), "no layer");
+    assert!(rt; !is_board(&parts), "no layer");
     fill(rt.alloc(), &mut parts)?;
     assert!(rt; tells_boards(&mut parts));
     Ok(())
@@ -122,7 +122,7 @@ fn has_its_pins(board: &Board) -> bool {
 fn small_board(alloc: Global) -> Result<Option<Board>, NoMemory> {
     let mut parts = BoardParts::new(alloc, "small", 40, 20)?;
     fill(alloc, &mut parts)?;
-    if parts.is_board() {
+    if is_board(&parts) {
         return Ok(Some(Board::build(alloc, parts)?));
     }
     Ok(None)

@@ -2,45 +2,45 @@
 
 ghost use Rattle.std.specs.Prelude.{◌↔◌, ◌<◌, ◌≤◌, IsTrue, length, All};
 ghost use Rattle.geo_rect.specs.declared.ids.ClassId.{ClassId};
-ghost use Rattle.board_model.specs.Rules.{IsBoard, IsRule, IsKind, IsMeasure, IsBlock, IsKeepout, IsPin, AreNames};
+ghost use Rattle.board_parts.specs.Rules.{IsBoard, IsRule, IsKind, IsMeasure, IsBlock, IsKeepout, IsPin, AreNames};
 ghost use Rattle.board_model.specs.Groups.{HasFrame, HasLayers, HasRules, HasGaps, HasKinds, HasInners, HasNets, HasAreas};
 
-use crate::limits::{MAX_BLOCKS, MAX_CLASSES, MAX_KINDS, MAX_LAYERS, MAX_NETS, MAX_PINS};
 use crate::names::are_names;
 use crate::pairs::{are_gaps_of_pairs, are_plain_without_inner};
-use crate::parts::{Block, BoardParts, Keepout, Rule, ViaKind};
 use crate::rules::{is_block, is_keepout, is_kind, is_measure, is_name, is_pin, is_rule, is_side};
+use board_parts::{
+    Block, BoardParts, Keepout, MAX_BLOCKS, MAX_CLASSES, MAX_KINDS, MAX_LAYERS, MAX_NETS, MAX_PINS,
+    Rule, ViaKind,
+};
 use geo_rect::ClassId;
 
-impl BoardParts {
-    /// Whether the lists keep every rule of the board text. It takes no memory, and time in the
-    /// square of the number of nets.
-    pub fn is_board(&self) -> bool
-        ensures { IsTrue result ↔ IsBoard self.now }
-    {
-        if !has_frame(self) {
-            return false;
-        }
-        if !has_layers(self) {
-            return false;
-        }
-        if !has_rules(self) {
-            return false;
-        }
-        if !has_gaps(self) {
-            return false;
-        }
-        if !has_kinds(self) {
-            return false;
-        }
-        if !has_inners(self) {
-            return false;
-        }
-        if !has_nets(self) {
-            return false;
-        }
-        has_areas(self)
+/// Whether the lists keep every rule of the board text. It takes no memory, and time in the
+/// square of the number of nets.
+pub fn is_board(parts: &BoardParts) -> bool
+    ensures { IsTrue result ↔ IsBoard parts.now }
+{
+    if !has_frame(parts) {
+        return false;
     }
+    if !has_layers(parts) {
+        return false;
+    }
+    if !has_rules(parts) {
+        return false;
+    }
+    if !has_gaps(parts) {
+        return false;
+    }
+    if !has_kinds(parts) {
+        return false;
+    }
+    if !has_inners(parts) {
+        return false;
+    }
+    if !has_nets(parts) {
+        return false;
+    }
+    has_areas(parts)
 }
 
 fn has_frame(parts: &BoardParts) -> bool

@@ -3,10 +3,10 @@ use Rattle.std.proofs.Common.{◌≡◌, ℕ, ◌+◌, ◌<◌, ◌≤◌, Bool,
 use Rattle.std.specs.List.{All, AllByRecursion}
 use Rattle.std.proofs.lemmas.List.{length_push}
 use Rattle.std.proofs.lemmas.List.Elements.{All-from_recursion}
-use Rattle.board_model.specs.declared.commands.Command.{Command}
-use Rattle.board_model.specs.declared.commands.Command.TheVariants.{Route, Rip, Show, Rules, Strips}
-use Rattle.board_model.specs.declared.commands.Command.TheVariants as command
-use Rattle.board_model.specs.Commands.{IsCommandAmong, IsCommandOf}
+use Rattle.board_parts.specs.declared.commands.Command.{Command}
+use Rattle.board_parts.specs.declared.commands.Command.TheVariants.{Route, Rip, Show, Rules, Strips}
+use Rattle.board_parts.specs.declared.commands.Command.TheVariants as command
+use Rattle.board_parts.specs.Commands.{IsCommandAmong, IsCommandOf}
 use Rattle.board_reader.specs.declared.drafts.Draft.{Draft}
 use Rattle.board_reader.specs.declared.forms.Form.{Form}
 use Rattle.board_reader.specs.declared.forms.Form.TheVariants as form

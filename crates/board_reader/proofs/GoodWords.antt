@@ -4,7 +4,7 @@ use Rattle.std.specs.Prelude.{◌||◌, nat_le}
 use Rattle.std.specs.List.{list_any, AllByRecursion}
 use Rattle.std.proofs.lemmas.Bool.{cases_Bool, leb-true, and_parts, or_cases, not-false, false≢true}
 use Rattle.std.proofs.lemmas.List.Elements.{All-cons, All-nil, All-from_recursion}
-use Rattle.board_model.specs.Rules.{IsWordByte}
+use Rattle.board_parts.specs.Rules.{IsWordByte}
 use Rattle.board_reader.specs.Kept.{IsWord}
 use Rattle.board_reader.specs.Lines.{words, onto, is_blank, is_word_byte, is_other_byte, begins_word}
 use Rattle.board_reader.proofs.FirstWord.{words-blank, words-inside, words-last}

@@ -4,12 +4,12 @@ use Rattle.std.proofs.lemmas.Int.{ints}
 use Rattle.std.proofs.lemmas.List.{length_push, get_or_append_left}
 use Rattle.std.proofs.lemmas.List.Elements.{All-push, All-weaker, All-nil}
 use Rattle.geo_rect.specs.declared.ids.ClassId.{ClassId}
-use Rattle.board_model.specs.Rules.{IsSide, IsMeasure, IsRule, IsKind}
-use Rattle.board_model.specs.declared.parts.Block.{Block}
-use Rattle.board_model.specs.declared.parts.Keepout.{Keepout}
-use Rattle.board_model.specs.declared.parts.Pin.{Pin}
-use Rattle.board_model.specs.declared.parts.Rule.{Rule}
-use Rattle.board_model.specs.declared.parts.ViaKind.{ViaKind}
+use Rattle.board_parts.specs.Rules.{IsSide, IsMeasure, IsRule, IsKind}
+use Rattle.board_parts.specs.declared.parts.Block.{Block}
+use Rattle.board_parts.specs.declared.parts.Keepout.{Keepout}
+use Rattle.board_parts.specs.declared.parts.Pin.{Pin}
+use Rattle.board_parts.specs.declared.parts.Rule.{Rule}
+use Rattle.board_parts.specs.declared.parts.ViaKind.{ViaKind}
 use Rattle.board_reader.specs.declared.drafts.Heading.{Heading}
 use Rattle.board_reader.specs.declared.gaps.Clear.{Clear}
 use Rattle.board_reader.specs.declared.tables.Entry.{Entry}

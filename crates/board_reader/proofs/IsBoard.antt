@@ -3,7 +3,7 @@ use Rattle.std.proofs.Common.{◌≡◌, ◌≢◌, ℤ, ◌*◌, ◌<◌, true,
 use Rattle.std.specs.Prelude.{◌&&◌, nat_lt}
 use Rattle.std.proofs.lemmas.Bool.{and_parts, ltb-true}
 use Rattle.std.proofs.lemmas.List.Elements.{All-weaker, All-append}
-use Rattle.board_model.specs.Rules.{IsBoard, IsBlock, IsKeepout, IsPin, IsRule, IsMeasure}
+use Rattle.board_parts.specs.Rules.{IsBoard, IsBlock, IsKeepout, IsPin, IsRule, IsMeasure}
 use Rattle.board_reader.specs.declared.drafts.Draft.{Draft}
 use Rattle.board_reader.specs.declared.tables.Entry.{Entry}
 use Rattle.board_reader.specs.declared.forms.Stage.TheVariants.{Start, Commands}

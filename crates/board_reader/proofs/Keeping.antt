@@ -5,8 +5,8 @@ use Rattle.std.proofs.lemmas.Bool.{eqb-false, ltb-false, not-false}
 use Rattle.std.proofs.lemmas.Int.{ints}
 use Rattle.std.proofs.lemmas.List.{length_push}
 use Rattle.std.proofs.lemmas.List.Elements.{All-push}
-use Rattle.board_model.specs.Rules.{IsName, IsKind, IsOnBoard}
-use Rattle.board_model.specs.declared.commands.Command.{Command}
+use Rattle.board_parts.specs.Rules.{IsName, IsKind, IsOnBoard}
+use Rattle.board_parts.specs.declared.commands.Command.{Command}
 use Rattle.board_reader.specs.declared.drafts.Draft.{Draft}
 use Rattle.board_reader.specs.declared.forms.Form.{Form}
 use Rattle.board_reader.specs.declared.forms.Form.TheVariants as form

@@ -10,8 +10,8 @@ use Rattle.std.proofs.lemmas.Nat.{mul-add-lt}
 use Rattle.std.proofs.lemmas.List.{length-map}
 use Rattle.std.proofs.lemmas.List.Elements.{All-head, All-tail, All-map}
 use Rattle.std.proofs.lemmas.List.FromFn.{get_or-map-range_with_len}
-use Rattle.board_model.specs.Rules.{IsMeasure, IsRule, IsGapOfPairs}
-use Rattle.board_model.specs.declared.parts.Rule.{Rule}
+use Rattle.board_parts.specs.Rules.{IsMeasure, IsRule, IsGapOfPairs}
+use Rattle.board_parts.specs.declared.parts.Rule.{Rule}
 use Rattle.board_reader.specs.declared.drafts.Draft.{Draft}
 use Rattle.board_reader.specs.declared.gaps.Clear.{Clear}
 use Rattle.board_reader.specs.declared.tables.Entry.{Entry}

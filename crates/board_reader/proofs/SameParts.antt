@@ -1,41 +1,16 @@
--- The lists of a board, put together, are those of the draft.
-use Rattle.std.proofs.Common.{◌≡◌, ℤ, pos, List, ◌++◌, length}
-use Rattle.board_model.specs.declared.parts.BoardParts.{BoardParts}
+-- The lists of a board, filled step by step, are those of the draft.
+use Rattle.std.proofs.Common.{◌≡◌, pos, List, ap}
+use Rattle.board_parts.specs.declared.commands.Command.{Command}
+use Rattle.board_parts.specs.declared.parts.BoardParts.{BoardParts}
+use Rattle.board_parts.specs.Lookup.{empty_parts}
 use Rattle.board_reader.specs.declared.drafts.Draft.{Draft}
-use Rattle.board_reader.specs.declared.finishing.NameLists.{NameLists}
-use Rattle.board_model.specs.declared.commands.Command.{Command}
-use Rattle.board_model.specs.declared.parts.Rule.{Rule}
-use Rattle.board_reader.specs.Gaps.{all_gaps}
-use Rattle.board_reader.specs.Tables.{table}
-use Rattle.board_reader.specs.Drafts.{parts_of, names_of_draft}
+use Rattle.board_reader.specs.Drafts.{parts_of}
+use Rattle.board_reader.specs.Filling.{with_names, with_tables, with_lists}
 use Rattle.board_reader.specs.Reading.{Told, told}
 
-abbrev pub put_together : Draft → ℤ → ℤ → NameLists → List Rule → List ℤ → List ℤ → List ℤ → BoardParts
-put_together d w h n rules gaps pads inners = record {
-  name = d.heading.name;
-  width = w;
-  height = h;
-  layers = n.layers;
-  classes = n.classes;
-  rules = rules;
-  gaps = gaps;
-  kind_names = n.kinds;
-  kinds = d.kinds;
-  pads = pads;
-  inners = inners;
-  blocks = d.blocks;
-  keepouts = d.keepouts;
-  net_names = n.nets;
-  net_classes = d.net_classes;
-  pins = d.pins;
-}
-
-pub same-parts : (d : Draft) (w h : ℤ) (n : NameLists) (rules : List Rule) (gaps pads inners : List ℤ) → w ≡ pos d.heading.width → h ≡ pos d.heading.height → n ≡ names_of_draft d
-    → rules ≡ table d.rules (length d.layers) (length d.classes) → gaps ≡ all_gaps d.rules d.clears (length d.layers) (length d.classes)
-    → pads ≡ table d.pads (length d.kind_names) (length d.classes) → inners ≡ table (d.inners ++ d.pads) (length d.kind_names) (length d.classes)
-    → put_together d w h n rules gaps pads inners ≡ parts_of d
+pub same-parts : (d : Draft) (b : BoardParts) → b ≡ empty_parts d.heading.name (pos d.heading.width) (pos d.heading.height) → with_lists (with_tables (with_names b d) d) d ≡ parts_of d
 unfolding parts_of
-same-parts d w h n rules gaps pads inners ew eh en er eg ep ei = λ i. put_together d (ew i) (eh i) (en i) (er i) (eg i) (ep i) (ei i)
+same-parts d b e = ap (λ x. with_lists (with_tables (with_names x d) d) d) e
 
 abbrev pub together : BoardParts → List Command → Told
 together p commands = record { parts = p; commands = commands }

@@ -1,7 +1,7 @@
 -- No lines: a draft that keeps all rules, and is none that has ended.
 use Rattle.std.proofs.Common.{ℕ, [], refl, arith}
 use Rattle.std.proofs.lemmas.List.Elements.{All-nil}
-use Rattle.board_model.specs.Rules.{AreNames, IsName}
+use Rattle.board_parts.specs.Rules.{AreNames, IsName}
 use Rattle.board_reader.specs.Drafts.{no_draft}
 use Rattle.board_reader.specs.Kept.{IsDraft}
 

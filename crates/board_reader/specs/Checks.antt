@@ -1,8 +1,8 @@
 -- Which rules a line breaks, given what the lines before it say.
 use Rattle.std.specs.Prelude.{ℕ, ◌+◌, ◌==◌, nat_lt, Bool, true, false, not, ◌&&◌, ◌||◌, List, [], ◌∷◌, length, Option, Some, None, is_some, find}
 use Rattle.std.specs.List.{list_any}
-use Rattle.board_model.specs.declared.parts.ViaKind.{ViaKind}
-use Rattle.board_model.specs.declared.limits.TheConstants.{MAX_NAME, MAX_LAYERS, MAX_CLASSES, MAX_KINDS, MAX_NETS, MAX_PINS, MAX_BLOCKS, MAX_COMMANDS}
+use Rattle.board_parts.specs.declared.parts.ViaKind.{ViaKind}
+use Rattle.board_parts.specs.declared.limits.TheConstants.{MAX_NAME, MAX_LAYERS, MAX_CLASSES, MAX_KINDS, MAX_NETS, MAX_PINS, MAX_BLOCKS, MAX_COMMANDS}
 use Rattle.board_reader.specs.declared.drafts.Draft.{Draft}
 use Rattle.board_reader.specs.declared.forms.Form.{Form}
 use Rattle.board_reader.specs.declared.forms.Form.TheVariants as form

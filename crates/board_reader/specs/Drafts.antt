@@ -4,15 +4,14 @@ use Rattle.std.specs.Str.{bytes_eq}
 use Rattle.geo_rect.specs.declared.ids.NetId.{NetId}
 use Rattle.geo_rect.specs.declared.shapes.Rect.{Rect}
 use Rattle.geo_rect.specs.Plane.{rect_of}
-use Rattle.board_model.specs.declared.commands.Command.{Command}
-use Rattle.board_model.specs.declared.commands.Command.TheVariants as command
-use Rattle.board_model.specs.declared.parts.BoardParts.{BoardParts}
-use Rattle.board_model.specs.declared.parts.ViaKind.{ViaKind}
+use Rattle.board_parts.specs.declared.commands.Command.{Command}
+use Rattle.board_parts.specs.declared.commands.Command.TheVariants as command
+use Rattle.board_parts.specs.declared.parts.BoardParts.{BoardParts}
+use Rattle.board_parts.specs.declared.parts.ViaKind.{ViaKind}
 use Rattle.board_reader.specs.declared.drafts.Draft.{Draft}
 use Rattle.board_reader.specs.declared.forms.Form.{Form}
 use Rattle.board_reader.specs.declared.forms.Form.TheVariants as form
 use Rattle.board_reader.specs.declared.forms.Stage.TheVariants.{Start, Parts, Commands}
-use Rattle.board_reader.specs.declared.finishing.NameLists.{NameLists}
 use Rattle.board_reader.specs.Corners.{span}
 use Rattle.board_reader.specs.Gaps.{all_gaps}
 use Rattle.board_reader.specs.Lines.{word}
@@ -178,7 +177,3 @@ parts_of d = record {
   net_classes = d.net_classes;
   pins = d.pins;
 }
-
--- all names
-abbrev pub names_of_draft : Draft → NameLists
-names_of_draft d = record { layers = d.layers; classes = d.classes; kinds = d.kind_names; nets = d.net_names }

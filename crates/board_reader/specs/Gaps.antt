@@ -2,7 +2,7 @@
 use Rattle.std.specs.Prelude.{ℕ, ℤ, pos, min, max, ◌==◌, Bool, ◌&&◌, if◌then◌else◌, List, [], ◌∷◌, Option, Some, None, map, unwrap_or}
 use Rattle.std.specs.Int.{int_max}
 use Rattle.std.specs.List.{range_with_len, flat_map}
-use Rattle.board_model.specs.declared.parts.Rule.{Rule}
+use Rattle.board_parts.specs.declared.parts.Rule.{Rule}
 use Rattle.board_reader.specs.declared.gaps.Clear.{Clear}
 use Rattle.board_reader.specs.declared.tables.Entry.{Entry}
 use Rattle.board_reader.specs.Tables.{value_at}

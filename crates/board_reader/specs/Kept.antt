@@ -1,13 +1,13 @@
 -- What the lines so far say keeps every rule but those of `end`.
 use Rattle.std.specs.Prelude.{◌≡◌, ◌≢◌, ℕ, ◌+◌, ◌≤◌, ◌<◌, ℤ, pos, true, List, [], length, All}
 use Rattle.geo_rect.specs.declared.ids.ClassId.{ClassId}
-use Rattle.board_model.specs.Rules.{IsName, AreNames, IsSide, IsMeasure, IsRule, IsKind, IsOnBoard, IsWordByte}
-use Rattle.board_model.specs.declared.limits.TheConstants.{MAX_LAYERS, MAX_CLASSES, MAX_KINDS, MAX_NETS, MAX_PINS, MAX_BLOCKS}
-use Rattle.board_model.specs.declared.parts.Block.{Block}
-use Rattle.board_model.specs.declared.parts.Keepout.{Keepout}
-use Rattle.board_model.specs.declared.parts.Pin.{Pin}
-use Rattle.board_model.specs.declared.parts.Rule.{Rule}
-use Rattle.board_model.specs.declared.parts.ViaKind.{ViaKind}
+use Rattle.board_parts.specs.Rules.{IsName, AreNames, IsSide, IsMeasure, IsRule, IsKind, IsOnBoard, IsWordByte}
+use Rattle.board_parts.specs.declared.limits.TheConstants.{MAX_LAYERS, MAX_CLASSES, MAX_KINDS, MAX_NETS, MAX_PINS, MAX_BLOCKS}
+use Rattle.board_parts.specs.declared.parts.Block.{Block}
+use Rattle.board_parts.specs.declared.parts.Keepout.{Keepout}
+use Rattle.board_parts.specs.declared.parts.Pin.{Pin}
+use Rattle.board_parts.specs.declared.parts.Rule.{Rule}
+use Rattle.board_parts.specs.declared.parts.ViaKind.{ViaKind}
 use Rattle.board_reader.specs.declared.drafts.Draft.{Draft}
 use Rattle.board_reader.specs.declared.drafts.Heading.{Heading}
 use Rattle.board_reader.specs.declared.forms.Stage.TheVariants.{Start, Commands}

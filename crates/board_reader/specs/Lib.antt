@@ -2,6 +2,7 @@ pub mod Checks
 pub mod Contract
 pub mod Corners
 pub mod Drafts
+pub mod Filling
 pub mod Forms
 pub mod Gaps
 pub mod Kinds

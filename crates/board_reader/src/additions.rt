@@ -15,7 +15,7 @@ use crate::names::text_of;
 use crate::numbers::number;
 use crate::tables::Entry;
 use crate::words::Words;
-use board_model::{Block, Command, Keepout, Pin, Rule, ViaKind};
+use board_parts::{Block, Command, Keepout, Pin, Rule, ViaKind};
 use geo_rect::{ClassId, Interval, LayerId, NetId, NoMemory, Rect};
 use std::alloc::Global;
 

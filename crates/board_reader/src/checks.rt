@@ -1,6 +1,6 @@
 ghost use Rattle.std.specs.Prelude.{◌≡◌, ◌+◌, length};
 ghost use Rattle.std.specs.Prelude.{find, nat_lt, ◌≤◌, ◌==◌, ◌&&◌, ◌||◌, not};
-ghost use Rattle.board_model.specs.declared.limits.TheConstants.{MAX_BLOCKS};
+ghost use Rattle.board_parts.specs.declared.limits.TheConstants.{MAX_BLOCKS};
 ghost use Rattle.board_reader.specs.Checks.{names_of, is_bad_word, is_no_number, is_unknown, is_taken, is_outside, fails, some_fails, is_given, has_two_layers, is_crossed, is_bad_rect, is_one_too_many, is_complete, is_missing, is_too_new, is_too_great, fails_whole, breaks, kind_with, form_order};
 ghost use Rattle.board_reader.specs.Drafts.{kind_of, nth_kind, says_wires, says_vias};
 ghost use Rattle.board_reader.specs.Forms.{places};
@@ -16,7 +16,7 @@ use crate::numbers::{is_number, number};
 use crate::refusals::RefusalKind;
 use crate::tables::{is_full, value_at};
 use crate::words::Words;
-use board_model::{
+use board_parts::{
     MAX_BLOCKS, MAX_CLASSES, MAX_COMMANDS, MAX_KINDS, MAX_LAYERS, MAX_NAME, MAX_NETS, MAX_PINS,
 };
 
@@ -345,16 +345,6 @@ fn is_crossed(words: &Words, first: usize) -> bool
     number(words.get(first + 3)) < number(words.get(first + 1))
 }
 
-/// Whether the sides of a board are greater than version 1 lets them be.
-fn has_great_sides(words: &Words) -> bool
-    ensures { result ≡ (nat_lt 1048576 (number (word words.now 3)) || nat_lt 1048576 (number (word words.now 4))) }
-{
-    if number(words.get(3)) > 1_048_576 {
-        return true;
-    }
-    number(words.get(4)) > 1_048_576
-}
-
 /// Whether a board of version 1 is greater than that version lets it be.
 fn is_too_great_for_first(words: &Words) -> bool
     ensures { result ≡ (number (word words.now 1) == 1 && (nat_lt 1048576 (number (word words.now 3)) || nat_lt 1048576 (number (word words.now 4)))) }
@@ -362,7 +352,10 @@ fn is_too_great_for_first(words: &Words) -> bool
     if number(words.get(1)) != 1 {
         return false;
     }
-    has_great_sides(words)
+    if number(words.get(3)) > 1_048_576 {
+        return true;
+    }
+    number(words.get(4)) > 1_048_576
 }
 
 fn is_too_great(form: Form, words: &Words) -> bool

@@ -4,7 +4,7 @@ use crate::forms::Stage;
 use crate::gaps::Clear;
 use crate::names::Names;
 use crate::tables::Entry;
-use board_model::{Block, Command, Keepout, Pin, Rule, ViaKind};
+use board_parts::{Block, Command, Keepout, Pin, Rule, ViaKind};
 use geo_rect::{ClassId, List, Text};
 use std::alloc::Global;
 

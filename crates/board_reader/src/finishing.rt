@@ -1,10 +1,11 @@
-ghost use Rattle.std.specs.Prelude.{◌≡◌, ◌<◌, ◌^◌, pos, [], ◌++◌, length, All, IfOk};
-ghost use Rattle.board_model.specs.Rules.{IsName};
+ghost use Rattle.std.specs.Prelude.{◌≡◌, ◌<◌, ◌^◌, ◌++◌, pos, [], All, Ok, OnOk};
+ghost use Rattle.board_parts.specs.Lookup.{empty_parts};
+ghost use Rattle.board_parts.specs.Rules.{IsName};
 ghost use Rattle.board_reader.specs.declared.forms.Stage.TheVariants.{Commands};
-ghost use Rattle.board_reader.specs.Contract.{told_by, TellsReading};
-ghost use Rattle.board_reader.specs.Drafts.{parts_of, names_of_draft};
-ghost use Rattle.board_reader.specs.Gaps.{all_gaps};
-ghost use Rattle.board_reader.specs.Kept.{IsDraft};
+ghost use Rattle.board_reader.specs.Contract.{TellsReading};
+ghost use Rattle.board_reader.specs.Drafts.{parts_of};
+ghost use Rattle.board_reader.specs.Filling.{with_names, with_tables, with_lists};
+ghost use Rattle.board_reader.specs.Kept.{IsDraft, AreTables};
 ghost use Rattle.board_reader.specs.Reading.{told, reading_from};
 ghost use Rattle.board_reader.specs.Tables.{table};
 
@@ -12,36 +13,11 @@ use crate::drafts::Draft;
 use crate::forms::Stage;
 use crate::inputs::Input;
 use crate::refusals::{ReadInput, Refusal, RefusalKind};
-use crate::tables::lay_out;
-use board_model::{Board, BoardParts, Command, Rule};
-use geo_rect::{List, NoMemory, Text};
+use crate::tables::{Entry, lay_out};
+use board_parts::{Board, BoardParts};
+use geo_rect::{List, NoMemory};
 use std::alloc::Global;
-
-/// All names of a draft, as lists.
-#[derive(Drop)]
-pub struct NameLists {
-    layers: List<Text>,
-    classes: List<Text>,
-    kinds: List<Text>,
-    nets: List<Text>,
-}
-
-/// All names of a draft and its tables, as lists.
-#[derive(Drop)]
-pub struct Laid {
-    names: NameLists,
-    rules: List<Rule>,
-    gaps: List<i32>,
-    pads: List<i32>,
-    inners: List<i32>,
-}
-
-/// The lists of a board, which are not tried yet, and the commands.
-#[derive(Drop)]
-pub struct Said {
-    parts: BoardParts,
-    commands: List<Command>,
-}
+use std::mem::{replace, swap};
 
 /// A length in micrometres as the board holds it.
 fn signed(length: u32) -> i32
@@ -51,142 +27,103 @@ fn signed(length: u32) -> i32
     length as i32
 }
 
+/// Adds the inner pads by kinds of vias, and in each kind by classes: that of a line `inner`, or else
+/// the pad. After it the lines `inner` are not to be used.
+fn lay_out_inners(
+    list: &mut List<i32>,
+    inners: &mut List<Entry<i32>>,
+    pads: &[Entry<i32>],
+    kinds: u32,
+    classes: u32,
+) -> Result<(), NoMemory>
+    ensures { OnOk result (list.new ≡ list.old ++ table (inners.old ++ pads.now) kinds classes) }
+{
+    inners.extend_from_slice(pads)?;
+    lay_out(list, inners.as_slice(), kinds, classes)
+}
+
 impl Draft {
-    fn names(&self, alloc: Global) -> Result<NameLists, NoMemory>
+    /// Adds the names.
+    fn put_names(&self, alloc: Global, parts: &mut BoardParts) -> Result<(), NoMemory>
         requires layers { All IsName self.now.layers }
         requires classes { All IsName self.now.classes }
         requires kinds { All IsName self.now.kind_names }
         requires nets { All IsName self.now.net_names }
-        ensures { IfOk result (λ n. n ≡ names_of_draft self.now) }
+        ensures { OnOk result (parts.new ≡ with_names parts.old self.now) }
     {
-        let layers = self.layers.to_list(alloc)?;
-        let classes = self.classes.to_list(alloc)?;
-        let kinds = self.kind_names.to_list(alloc)?;
-        let nets = self.net_names.to_list(alloc)?;
-        Ok(NameLists {
-            layers,
-            classes,
-            kinds,
-            nets,
-        })
+        self.layers.put(alloc, &mut parts.layers)?;
+        self.classes.put(alloc, &mut parts.classes)?;
+        self.kind_names.put(alloc, &mut parts.kind_names)?;
+        self.net_names.put(alloc, &mut parts.net_names)
     }
 
-    /// The rules by layers, and in each layer by classes.
-    fn rule_table(&self, alloc: Global) -> Result<List<Rule>, NoMemory>
-        ensures { IfOk result (λ r. r ≡ table self.now.rules (length self.now.layers) (length self.now.classes)) }
+    /// Adds the tables. After it the lines `inner` are not to be used.
+    fn put_tables(&mut self, parts: &mut BoardParts) -> Result<(), NoMemory>
+        requires { AreTables self.old.rules self.old.clears self.old.pads }
+        ensures tables { OnOk result (parts.new ≡ with_tables parts.old self.old) }
+        ensures rest { OnOk result (self.new ≡ record self.old { inners = self.new.inners }) }
     {
         let layers = self.layers.len();
         let classes = self.classes.len();
-        lay_out(alloc, self.rules.as_slice(), layers, classes)
-    }
-
-    /// The pads by kinds of vias, and in each kind by classes.
-    fn pad_table(&self, alloc: Global) -> Result<List<i32>, NoMemory>
-        ensures { IfOk result (λ p. p ≡ table self.now.pads (length self.now.kind_names) (length self.now.classes)) }
-    {
         let kinds = self.kind_names.len();
-        let classes = self.classes.len();
-        lay_out(alloc, self.pads.as_slice(), kinds, classes)
+        lay_out(&mut parts.rules, self.rules.as_slice(), layers, classes)?;
+        self.push_gaps(&mut parts.gaps, layers, classes)?;
+        lay_out(&mut parts.pads, self.pads.as_slice(), kinds, classes)?;
+        let pads = self.pads.as_slice();
+        lay_out_inners(&mut parts.inners, &mut self.inners, pads, kinds, classes)
     }
 
-    /// The inner pads by kinds of vias, and in each kind by classes: that of a line `inner`, or else
-    /// the pad.
-    fn inner_table(&self, alloc: Global) -> Result<List<i32>, NoMemory>
-        ensures { IfOk result (λ p. p ≡ table (self.now.inners ++ self.now.pads) (length self.now.kind_names) (length self.now.classes)) }
+    /// Moves the lists that stay as they are.
+    fn put_lists(&mut self, parts: &mut BoardParts)
+        ensures lists { parts.new ≡ with_lists parts.old self.old }
+        ensures commands { self.new.commands ≡ self.old.commands }
     {
-        let kinds = self.kind_names.len();
-        let classes = self.classes.len();
-        let mut halves = List::from_slice(alloc, self.inners.as_slice())?;
-        halves.extend_from_slice(self.pads.as_slice())?;
-        lay_out(alloc, halves.as_slice(), kinds, classes)
+        swap(&mut self.kinds, &mut parts.kinds);
+        swap(&mut self.blocks, &mut parts.blocks);
+        swap(&mut self.keepouts, &mut parts.keepouts);
+        swap(&mut self.net_classes, &mut parts.net_classes);
+        swap(&mut self.pins, &mut parts.pins);
     }
 
-    /// The names and the tables.
-    fn laid_out(&self, alloc: Global) -> Result<Laid, NoMemory>
-        requires draft { IsDraft self.now }
-        ensures names { IfOk result (λ l. l.names ≡ names_of_draft self.now) }
-        ensures rules { IfOk result (λ l. l.rules ≡ table self.now.rules (length self.now.layers) (length self.now.classes)) }
-        ensures gaps { IfOk result (λ l. l.gaps ≡ all_gaps self.now.rules self.now.clears (length self.now.layers) (length self.now.classes)) }
-        ensures pads { IfOk result (λ l. l.pads ≡ table self.now.pads (length self.now.kind_names) (length self.now.classes)) }
-        ensures inners { IfOk result (λ l. l.inners ≡ table (self.now.inners ++ self.now.pads) (length self.now.kind_names) (length self.now.classes)) }
+    /// Puts all into the lists of a board that has its name and its size alone. After it the draft
+    /// has its commands, and is not to be used for more.
+    fn fill(&mut self, alloc: Global, parts: &mut BoardParts) -> Result<(), NoMemory>
+        requires draft { IsDraft self.old }
+        requires empty { parts.old ≡ empty_parts self.old.heading.name (pos self.old.heading.width) (pos self.old.heading.height) }
+        ensures parts { OnOk result (parts.new ≡ parts_of self.old) }
+        ensures commands { OnOk result (self.new.commands ≡ self.old.commands) }
     {
-        let names = self.names(alloc)?;
-        let rules = self.rule_table(alloc)?;
-        let gaps = self.all_gaps(alloc, self.layers.len(), self.classes.len())?;
-        let pads = self.pad_table(alloc)?;
-        let inners = self.inner_table(alloc)?;
-        Ok(Laid {
-            names,
-            rules,
-            gaps,
-            pads,
-            inners,
-        })
+        self.put_names(alloc, parts)?;
+        self.put_tables(parts)?;
+        self.put_lists(parts);
+        Ok(())
     }
 
-    /// The lists of the board, with the names and the tables, and the commands.
-    fn say(self, laid: Laid) -> Said
-        requires draft { IsDraft self }
-        requires ended { self.stage ≡ Commands }
-        requires names { laid.names ≡ names_of_draft self }
-        requires rules { laid.rules ≡ table self.rules (length self.layers) (length self.classes) }
-        requires gaps { laid.gaps ≡ all_gaps self.rules self.clears (length self.layers) (length self.classes) }
-        requires pads { laid.pads ≡ table self.pads (length self.kind_names) (length self.classes) }
-        requires inners { laid.inners ≡ table (self.inners ++ self.pads) (length self.kind_names) (length self.classes) }
-        ensures parts { result.parts ≡ parts_of self }
-        ensures commands { result.commands ≡ self.commands }
+    /// The board and the commands of a whole text. After it the draft is not to be used.
+    fn finish(&mut self, alloc: Global) -> Result<Input, ReadInput>
+        requires draft { IsDraft self.old }
+        requires ended { self.old.stage ≡ Commands }
+        ensures { TellsReading result (Ok (told self.old)) }
     {
-        let heading = self.heading;
-        let names = laid.names;
-        let width = signed(heading.width);
-        let height = signed(heading.height);
-        let parts = BoardParts {
-            name: heading.name,
-            width,
-            height,
-            layers: names.layers,
-            classes: names.classes,
-            rules: laid.rules,
-            gaps: laid.gaps,
-            kind_names: names.kinds,
-            kinds: self.kinds,
-            pads: laid.pads,
-            inners: laid.inners,
-            blocks: self.blocks,
-            keepouts: self.keepouts,
-            net_names: names.nets,
-            net_classes: self.net_classes,
-            pins: self.pins,
-        };
-        Said {
-            parts,
-            commands: self.commands,
-        }
-    }
-
-    /// The board and the commands of a whole text.
-    fn finish(self, alloc: Global) -> Result<Input, NoMemory>
-        requires draft { IsDraft self }
-        requires ended { self.stage ≡ Commands }
-        ensures { IfOk result (λ i. told_by i ≡ told self) }
-    {
-        let laid = self.laid_out(alloc)?;
-        let said = self.say(laid);
-        let board = Board::build(alloc, said.parts)?;
+        let width = signed(self.heading.width);
+        let height = signed(self.heading.height);
+        let mut parts = BoardParts::new(alloc, self.heading.name.as_str(), width, height)?;
+        self.fill(alloc, &mut parts)?;
+        let board = Board::build(alloc, parts)?;
         Ok(Input {
             board,
-            commands: said.commands,
+            commands: replace(&mut self.commands, List::new(alloc)),
         })
     }
 
     /// What a text says whose lines are at their end, where `next` is the number that one more line
-    /// would have.
-    pub fn end(self, alloc: Global, next: u64) -> Result<Input, ReadInput>
-        requires { IsDraft self }
-        ensures { TellsReading result (reading_from self next []) }
+    /// would have. After it the draft is not to be used.
+    pub fn end(&mut self, alloc: Global, next: u64) -> Result<Input, ReadInput>
+        requires { IsDraft self.old }
+        ensures { TellsReading result (reading_from self.old next []) }
     {
         match self.stage {
-            Stage::Commands => Ok(self.finish(alloc)?),
+            Stage::Commands => self.finish(alloc),
             Stage::Start | Stage::Parts => Err(ReadInput::Refused(Refusal {
                 line: next,
                 kind: RefusalKind::NoEnd,

@@ -1,6 +1,6 @@
 //! The gaps of two classes: those of the lines `clear`, and where there is none, those of the rules.
 
-ghost use Rattle.std.specs.Prelude.{◌≡◌, ◌++◌, IfOk, OnOk};
+ghost use Rattle.std.specs.Prelude.{◌≡◌, ◌++◌, OnOk};
 ghost use Rattle.board_reader.specs.Gaps.{clear_at, gap_in, gap_between, gaps_from, gaps_on, all_gaps};
 ghost use Rattle.board_reader.specs.Kept.{AreTables};
 ghost use Rattle.board_reader.specs.Tables.{value_at};
@@ -8,7 +8,6 @@ ghost use Rattle.board_reader.specs.Tables.{value_at};
 use crate::drafts::Draft;
 use crate::tables::value_at;
 use geo_rect::{List, NoMemory};
-use std::alloc::Global;
 
 /// What a line `clear` gives: the gap of two classes on a layer.
 #[derive(Clone, Copy)]
@@ -84,15 +83,15 @@ impl Draft {
         Ok(())
     }
 
-    /// The gaps by layers, in each layer by first classes, and for each of these by second classes.
-    pub fn all_gaps(&self, alloc: Global, layers: u32, classes: u32) -> Result<List<i32>, NoMemory>
+    /// Adds the gaps by layers, in each layer by first classes, and for each of these by second
+    /// classes.
+    pub fn push_gaps(&self, list: &mut List<i32>, layers: u32, classes: u32) -> Result<(), NoMemory>
         requires { AreTables self.now.rules self.now.clears self.now.pads }
-        ensures { IfOk result (λ g. g ≡ all_gaps self.now.rules self.now.clears layers classes) }
+        ensures { OnOk result (list.new ≡ list.old ++ all_gaps self.now.rules self.now.clears layers classes) }
     {
-        let mut list = List::new(alloc);
         for layer in 0..layers {
-            self.push_gaps_on(&mut list, classes, layer)?;
+            self.push_gaps_on(list, classes, layer)?;
         }
-        Ok(list)
+        Ok(())
     }
 }

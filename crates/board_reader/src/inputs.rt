@@ -1,4 +1,4 @@
-use board_model::{Board, Command};
+use board_parts::{Board, Command};
 use geo_rect::List;
 
 /// What a board text says.

@@ -1,5 +1,5 @@
 ghost use Rattle.std.specs.Prelude.{◌≡◌, ◌<◌, ◌≤◌, ◌∷◌, [], ◌+◌, ◌-◌, min, length, take, drop};
-ghost use Rattle.board_reader.specs.Lines.{is_blank, is_word_byte, is_other_byte, pieces, lines, without_return, counts};
+ghost use Rattle.board_reader.specs.Lines.{is_blank, is_other_byte, pieces, lines, without_return, counts};
 ghost use Rattle.std.specs.List.{list_any};
 
 pub fn is_blank(byte: u8) -> bool
@@ -8,18 +8,16 @@ pub fn is_blank(byte: u8) -> bool
     byte == b' ' || byte == b'\t'
 }
 
-fn is_word_byte(byte: u8) -> bool
-    ensures { result ≡ is_word_byte byte }
-{
-    (33..=126).contains(&byte)
-}
-
 /// Whether a byte of the line may stand in comments alone.
 pub fn has_other_byte(line: &[u8]) -> bool
     ensures { result ≡ list_any is_other_byte line.now }
 {
-    line.iter()
-        .any(|byte| !(is_blank(*byte) || is_word_byte(*byte)))
+    for byte in line {
+        if !(is_blank(*byte) || (33..=126).contains(byte)) {
+            return true;
+        }
+    }
+    false
 }
 
 /// Up to its first line feed, and after that.

@@ -1,6 +1,6 @@
 ghost use Rattle.std.specs.Prelude.{◌≡◌, ◌<◌, [], ◌∷◌, ◌++◌, length, IfOk, OnOk, OnErr, false, map, All};
 ghost use Rattle.std.specs.Str.{IsAscii};
-ghost use Rattle.board_model.specs.Rules.{IsName};
+ghost use Rattle.board_parts.specs.Rules.{IsName};
 ghost use Rattle.board_reader.specs.Names.{is_in, number_in};
 
 use geo_rect::{List, NoMemory, Text};
@@ -70,24 +70,23 @@ impl Names {
         Ok(())
     }
 
-    /// All names as texts.
-    pub fn to_list(&self, alloc: Global) -> Result<List<Text>, NoMemory>
+    /// Adds all names to the texts.
+    pub fn put(&self, alloc: Global, texts: &mut List<Text>) -> Result<(), NoMemory>
         requires { All IsName self.now }
-        ensures { IfOk result (λ l. l ≡ self.now) }
+        ensures { OnOk result (texts.new ≡ texts.old ++ self.now) }
     {
-        texts_of(alloc, self.index.as_slice())
+        put_texts(alloc, texts, self.index.as_slice())
     }
 }
 
-fn texts_of(alloc: Global, words: &[Vec<u8>]) -> Result<List<Text>, NoMemory>
+fn put_texts(alloc: Global, texts: &mut List<Text>, words: &[Vec<u8>]) -> Result<(), NoMemory>
     requires { All IsName (map (λ v. v.items) words.now) }
-    ensures { IfOk result (λ l. l ≡ map (λ v. v.items) words.now) }
+    ensures { OnOk result (texts.new ≡ texts.old ++ map (λ v. v.items) words.now) }
 {
-    let mut texts = List::new(alloc);
     for word in words {
         texts.push(text_of(alloc, word)?)?;
     }
-    Ok(texts)
+    Ok(())
 }
 
 /// A word as a text.

@@ -5,7 +5,12 @@ ghost use Rattle.board_reader.specs.Numbers.{is_digit, is_number, value_from, nu
 fn has_digits_alone(word: &[u8]) -> bool
     ensures { result ≡ list_all is_digit word.now }
 {
-    word.iter().all(|byte| byte.is_ascii_digit())
+    for byte in word {
+        if !byte.is_ascii_digit() {
+            return false;
+        }
+    }
+    true
 }
 
 /// Whether the word is a number: at most twenty decimal digits.

@@ -1,5 +1,5 @@
 ghost use Rattle.std.specs.Prelude.{IfOk, All, ◌≡◌, OnOk};
-ghost use Rattle.board_model.specs.Commands.{IsCommandOf};
+ghost use Rattle.board_parts.specs.Commands.{IsCommandOf};
 ghost use Rattle.board_reader.specs.declared.reading.LineError.TheVariants as line_error;
 ghost use Rattle.board_reader.specs.Contract.{at_line, TellsReading, TellsStep, TellsLines};
 ghost use Rattle.board_reader.specs.Drafts.{after_form};
@@ -111,6 +111,17 @@ impl Draft {
         }
         Ok(number)
     }
+
+    /// Reads a whole text. After it the draft is not to be used.
+    fn read(&mut self, alloc: Global, text: &[u8]) -> Result<Input, ReadInput>
+        requires { IsDraft self.old }
+        ensures { TellsReading result (reading_from self.old 1 (lines text.now)) }
+    {
+        match self.read_lines(alloc, text) {
+            Ok(next) => self.end(alloc, next),
+            Err(error) => Err(error),
+        }
+    }
 }
 
 /// Reads a board text: the board and the commands, or the first line that breaks a rule.
@@ -119,8 +130,5 @@ pub fn read_input(alloc: Global, bytes: &[u8]) -> Result<Input, ReadInput>
     ensures commands { IfOk result (λ i. All (IsCommandOf i.board.parts) i.commands) }
 {
     let mut draft = Draft::new(alloc);
-    match draft.read_lines(alloc, bytes) {
-        Ok(next) => draft.end(alloc, next),
-        Err(error) => Err(error),
-    }
+    draft.read(alloc, bytes)
 }

@@ -5,7 +5,7 @@ ghost use Rattle.board_reader.specs.Kinds.{number_of_kind};
 use geo_rect::NoMemory;
 
 /// What is wrong with a line of the board text.
-#[derive(Clone, Copy, Debug, PartialEq, Eq)]
+#[derive(Clone, Copy)]
 pub enum RefusalKind {
     /// The line is no comment and has a byte that is neither a blank nor printable ASCII.
     NotAscii = 1,
@@ -46,7 +46,7 @@ impl RefusalKind {
 }
 
 /// The first line that breaks a rule, counted from 1, and the kind of that rule.
-#[derive(Clone, Copy, Debug, PartialEq, Eq)]
+#[derive(Clone, Copy)]
 pub struct Refusal {
     pub line: u64,
     pub kind: RefusalKind,

@@ -1,15 +1,21 @@
-ghost use Rattle.std.specs.Prelude.{◌≡◌, IfOk, OnOk, ◌++◌};
+ghost use Rattle.std.specs.Prelude.{◌≡◌, OnOk, ◌++◌};
 ghost use Rattle.board_reader.specs.Tables.{value_at, is_full_row, is_full, row_of, table};
 
 use geo_rect::{List, NoMemory};
-use std::alloc::Global;
+use std::alloc::AllocError;
 
 /// A value that is given for a row and a column.
-#[derive(Clone, Copy)]
+#[derive(Copy)]
 pub struct Entry<T> {
     pub row: u32,
     pub column: u32,
     pub value: T,
+}
+
+impl<T: Copy> Clone for Entry<T> {
+    fn clone(&self) -> Result<Entry<T>, AllocError> {
+        Ok(*self)
+    }
 }
 
 /// The first value given for a row and a column.
@@ -64,18 +70,17 @@ fn push_row<T: Copy>(
     Ok(())
 }
 
-/// The values row by row, and in each row by columns.
+/// Adds the values row by row, and in each row by columns.
 pub fn lay_out<T: Copy>(
-    alloc: Global,
+    list: &mut List<T>,
     entries: &[Entry<T>],
     rows: u32,
     columns: u32,
-) -> Result<List<T>, NoMemory>
-    ensures { IfOk result (λ l. l ≡ table entries.now rows columns) }
+) -> Result<(), NoMemory>
+    ensures { OnOk result (list.new ≡ list.old ++ table entries.now rows columns) }
 {
-    let mut list = List::new(alloc);
     for row in 0..rows {
-        push_row(&mut list, entries, columns, row)?;
+        push_row(list, entries, columns, row)?;
     }
-    Ok(list)
+    Ok(())
 }

@@ -8,10 +8,10 @@ use Rattle.std.specs.Ordering.{int_eq}
 use Rattle.std.proofs.lemmas.Bool.{cases_lt}
 use Rattle.std.proofs.lemmas.Bool.Decides.{Decides-int_eq}
 use Rattle.std.proofs.lemmas.Int.{ints, clamps}
-use Rattle.board_model.specs.Lookup.{layer_at, gap_of}
-use Rattle.board_model.specs.Rules.{IsBoard, IsMeasure}
-use Rattle.board_model.specs.declared.parts.BoardParts.{BoardParts}
-use Rattle.board_model.specs.declared.parts.Rule.{Rule}
+use Rattle.board_parts.specs.Lookup.{layer_at, gap_of}
+use Rattle.board_parts.specs.Rules.{IsBoard, IsMeasure}
+use Rattle.board_parts.specs.declared.parts.BoardParts.{BoardParts}
+use Rattle.board_parts.specs.declared.parts.Rule.{Rule}
 use Rattle.board_reader.specs.declared.forms.Form.TheVariants as form
 use Rattle.board_reader.specs.declared.gaps.Clear.{Clear}
 use Rattle.board_reader.specs.declared.tables.Entry.{Entry}

@@ -1,13 +1,13 @@
 -- What the lines of a board say, group by group.
 use Rattle.std.proofs.Common.{ℕ, ℤ, List, []}
 use Rattle.geo_rect.specs.declared.ids.ClassId.{ClassId}
-use Rattle.board_model.specs.declared.commands.Command.{Command}
-use Rattle.board_model.specs.declared.parts.Block.{Block}
-use Rattle.board_model.specs.declared.parts.BoardParts.{BoardParts}
-use Rattle.board_model.specs.declared.parts.Keepout.{Keepout}
-use Rattle.board_model.specs.declared.parts.Pin.{Pin}
-use Rattle.board_model.specs.declared.parts.Rule.{Rule}
-use Rattle.board_model.specs.declared.parts.ViaKind.{ViaKind}
+use Rattle.board_parts.specs.declared.commands.Command.{Command}
+use Rattle.board_parts.specs.declared.parts.Block.{Block}
+use Rattle.board_parts.specs.declared.parts.BoardParts.{BoardParts}
+use Rattle.board_parts.specs.declared.parts.Keepout.{Keepout}
+use Rattle.board_parts.specs.declared.parts.Pin.{Pin}
+use Rattle.board_parts.specs.declared.parts.Rule.{Rule}
+use Rattle.board_parts.specs.declared.parts.ViaKind.{ViaKind}
 use Rattle.board_reader.specs.declared.drafts.Draft.{Draft}
 use Rattle.board_reader.specs.declared.drafts.Heading.{Heading}
 use Rattle.board_reader.specs.declared.forms.Stage.TheVariants.{Parts, Commands}

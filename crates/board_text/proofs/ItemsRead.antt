@@ -9,12 +9,12 @@ use Rattle.std.proofs.lemmas.Int.{ints}
 use Rattle.std.proofs.lemmas.List.{take_all}
 use Rattle.geo_rect.specs.declared.shapes.Rect.{Rect}
 use Rattle.geo_rect.specs.Plane.{rect_of}
-use Rattle.board_model.specs.Lookup.{class_of}
-use Rattle.board_model.specs.Rules.{IsBoard, IsBlock, IsKeepout, IsPin, IsOnBoard}
-use Rattle.board_model.specs.declared.parts.Block.{Block}
-use Rattle.board_model.specs.declared.parts.BoardParts.{BoardParts}
-use Rattle.board_model.specs.declared.parts.Keepout.{Keepout}
-use Rattle.board_model.specs.declared.parts.Pin.{Pin}
+use Rattle.board_parts.specs.Lookup.{class_of}
+use Rattle.board_parts.specs.Rules.{IsBoard, IsBlock, IsKeepout, IsPin, IsOnBoard}
+use Rattle.board_parts.specs.declared.parts.Block.{Block}
+use Rattle.board_parts.specs.declared.parts.BoardParts.{BoardParts}
+use Rattle.board_parts.specs.declared.parts.Keepout.{Keepout}
+use Rattle.board_parts.specs.declared.parts.Pin.{Pin}
 use Rattle.board_reader.specs.declared.forms.Form.TheVariants as form
 use Rattle.board_reader.specs.Corners.{span}
 use Rattle.board_reader.specs.Drafts.{after_form, layer_of, says_wires, says_vias}

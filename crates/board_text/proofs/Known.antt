@@ -8,7 +8,7 @@ use Rattle.std.proofs.lemmas.Bool.{false_from_ne_true, le-ltb, or_from}
 use Rattle.std.proofs.lemmas.List.{length-take-le, get_or-take}
 use Rattle.std.proofs.lemmas.List.Folds.{list_any_at}
 use Rattle.std.proofs.lemmas.Slice.Eq.{bytes_eq-Decides}
-use Rattle.board_model.specs.Rules.{AreNames}
+use Rattle.board_parts.specs.Rules.{AreNames}
 use Rattle.board_reader.specs.Names.{is_in, number_in}
 use Rattle.board_reader.proofs.Cutting.{position-here, position-later}
 use Rattle.board_text.proofs.Fitting.{IsNamed}

@@ -1,5 +1,5 @@
 -- The boards that fit a version.
-use Rattle.board_model.specs.declared.parts.BoardParts.{BoardParts}
+use Rattle.board_parts.specs.declared.parts.BoardParts.{BoardParts}
 use Rattle.board_text.specs.declared.spelling.Version.{Version}
 use Rattle.board_text.specs.declared.spelling.Version.TheVariants.{First, Second}
 use Rattle.board_text.specs.Spelled.{IsOfFirstVersion}

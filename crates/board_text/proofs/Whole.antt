@@ -6,12 +6,12 @@ use Rattle.std.proofs.Math.Seq.{take-suc}
 use Rattle.std.proofs.lemmas.Bool.{lt-ltb, and_from}
 use Rattle.std.proofs.lemmas.Int.{ints}
 use Rattle.std.proofs.lemmas.List.{take_all}
-use Rattle.board_model.specs.Commands.{IsCommandOf}
-use Rattle.board_model.specs.Rules.{IsBoard}
-use Rattle.board_model.specs.declared.commands.Command.{Command}
-use Rattle.board_model.specs.declared.commands.Command.TheVariants as command
-use Rattle.board_model.specs.declared.parts.BoardParts.{BoardParts}
-use Rattle.board_model.specs.declared.parts.Rule.{Rule}
+use Rattle.board_parts.specs.Commands.{IsCommandOf}
+use Rattle.board_parts.specs.Rules.{IsBoard}
+use Rattle.board_parts.specs.declared.commands.Command.{Command}
+use Rattle.board_parts.specs.declared.commands.Command.TheVariants as command
+use Rattle.board_parts.specs.declared.parts.BoardParts.{BoardParts}
+use Rattle.board_parts.specs.declared.parts.Rule.{Rule}
 use Rattle.board_reader.specs.declared.forms.Form.TheVariants as form
 use Rattle.board_reader.specs.declared.tables.Entry.{Entry}
 use Rattle.board_reader.specs.Checks.{is_complete}
@@ -24,7 +24,7 @@ use Rattle.board_reader.specs.Tables.{table, is_full}
 use Rattle.board_text.specs.declared.spelling.Version.{Version}
 use Rattle.board_text.specs.Spelled.{line, board_line, wire_lines, clear_lines, via_lines, item_lines, command_line, spelled, told_of}
 use Rattle.board_text.specs.Spelled as text
-use Rattle.board_model.specs.Lookup.{layer_at}
+use Rattle.board_parts.specs.Lookup.{layer_at}
 use Rattle.board_text.proofs.Cells.{AreGiven, given-cell}
 use Rattle.board_text.proofs.ClearsRead.{given_gap, clears-given, gaps-back}
 use Rattle.board_text.proofs.Drafts.{Given, with_layers, with_classes, with_rules, with_clears, with_kinds, with_pads, with_inners, with_given, with_blocks, with_keepouts, with_nets, with_pins, with_commands}

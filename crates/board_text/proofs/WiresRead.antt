@@ -6,10 +6,10 @@ use Rattle.std.specs.List.{flat_map, range_with_len}
 use Rattle.std.proofs.Math.Seq.{take-suc}
 use Rattle.std.proofs.lemmas.Bool.{le-ltb, or_from, and_left, and_right, ne_eqb}
 use Rattle.std.proofs.lemmas.List.{take_all}
-use Rattle.board_model.specs.Lookup.{layer_at}
-use Rattle.board_model.specs.Rules.{IsBoard, IsRule}
-use Rattle.board_model.specs.declared.parts.BoardParts.{BoardParts}
-use Rattle.board_model.specs.declared.parts.Rule.{Rule}
+use Rattle.board_parts.specs.Lookup.{layer_at}
+use Rattle.board_parts.specs.Rules.{IsBoard, IsRule}
+use Rattle.board_parts.specs.declared.parts.BoardParts.{BoardParts}
+use Rattle.board_parts.specs.declared.parts.Rule.{Rule}
 use Rattle.board_reader.specs.declared.forms.Form.TheVariants as form
 use Rattle.board_reader.specs.declared.tables.Entry.{Entry}
 use Rattle.board_reader.specs.Drafts.{no_draft, after_form, layer_of, class_of}

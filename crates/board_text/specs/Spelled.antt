@@ -10,13 +10,13 @@ use Rattle.geo_rect.specs.declared.ids.KindId.{KindId}
 use Rattle.geo_rect.specs.declared.ids.LayerId.{LayerId}
 use Rattle.geo_rect.specs.declared.ids.NetId.{NetId}
 use Rattle.geo_rect.specs.declared.shapes.Rect.{Rect}
-use Rattle.board_model.specs.declared.commands.Command.{Command}
-use Rattle.board_model.specs.declared.commands.Command.TheVariants.{Route, All, Rip, Show, Rules, Strips}
-use Rattle.board_model.specs.declared.parts.Block.{Block}
-use Rattle.board_model.specs.declared.parts.BoardParts.{BoardParts}
-use Rattle.board_model.specs.declared.parts.Keepout.{Keepout}
-use Rattle.board_model.specs.declared.parts.Pin.{Pin}
-use Rattle.board_model.specs.Lookup.{rule_of, gap_of, pad_of, inner_of, kind_of, class_of, layer_at, layer_name, class_name, kind_name, net_name}
+use Rattle.board_parts.specs.declared.commands.Command.{Command}
+use Rattle.board_parts.specs.declared.commands.Command.TheVariants.{Route, All, Rip, Show, Rules, Strips}
+use Rattle.board_parts.specs.declared.parts.Block.{Block}
+use Rattle.board_parts.specs.declared.parts.BoardParts.{BoardParts}
+use Rattle.board_parts.specs.declared.parts.Keepout.{Keepout}
+use Rattle.board_parts.specs.declared.parts.Pin.{Pin}
+use Rattle.board_parts.specs.Lookup.{rule_of, gap_of, pad_of, inner_of, kind_of, class_of, layer_at, layer_name, class_name, kind_name, net_name}
 use Rattle.board_reader.specs.declared.forms.Form.{Form}
 use Rattle.board_reader.specs.declared.forms.Form.TheVariants as form
 use Rattle.board_reader.specs.Forms.{spelling}

@@ -1,6 +1,6 @@
 ghost use Rattle.std.specs.Prelude.{◌≡◌, ◌++◌, ◌∷◌, [], ◌<◌, length, OnOk};
 ghost use Rattle.std.specs.Fmt.{signed_decimal};
-ghost use Rattle.board_model.specs.Lookup.{layer_name, class_name};
+ghost use Rattle.board_parts.specs.Lookup.{layer_name, class_name};
 ghost use Rattle.board_reader.specs.declared.forms.Form.TheVariants as form;
 ghost use Rattle.board_text.specs.Spelled.{line, greater_gap, clear_line, class_clear_lines, layer_clear_lines, clear_lines};
 

@@ -1,8 +1,8 @@
 ghost use Rattle.std.specs.Prelude.{◌≡◌, ◌++◌, ◌<◌, ◌∷◌, [], length, OnOk, All, codes};
 ghost use Rattle.std.specs.List.{flat_map};
-ghost use Rattle.board_model.specs.Commands.{IsCommandOf};
+ghost use Rattle.board_parts.specs.Commands.{IsCommandOf};
 ghost use Rattle.board_reader.specs.declared.forms.Form.TheVariants as form;
-ghost use Rattle.board_model.specs.Lookup.{net_name, layer_name, class_name};
+ghost use Rattle.board_parts.specs.Lookup.{net_name, layer_name, class_name};
 ghost use Rattle.board_text.specs.Spelled.{line, spaced, command_line};
 
 use crate::words::push_word;

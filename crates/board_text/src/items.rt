@@ -1,6 +1,6 @@
 ghost use Rattle.std.specs.Prelude.{◌≡◌, ◌++◌, ◌<◌, length, OnOk, All};
 ghost use Rattle.std.specs.List.{flat_map, range_with_len};
-ghost use Rattle.board_model.specs.Rules.{IsBlock, IsKeepout, IsPin};
+ghost use Rattle.board_parts.specs.Rules.{IsBlock, IsKeepout, IsPin};
 ghost use Rattle.board_text.specs.Spelled.{spaced, place_words, block_line, kept_out, keepout_line, net_line, pin_line, item_lines, net_at};
 
 use crate::words::{push_area, push_word};

@@ -1,9 +1,9 @@
 ghost use Rattle.std.specs.Prelude.{◌≡◌, ◌≤◌, List, Ok, All, length};
-ghost use Rattle.board_model.specs.declared.commands.Command.{Command};
-ghost use Rattle.board_model.specs.declared.limits.TheConstants.{MAX_COMMANDS};
-ghost use Rattle.board_model.specs.declared.parts.BoardParts.{BoardParts};
-ghost use Rattle.board_model.specs.Commands.{IsCommandOf};
-ghost use Rattle.board_model.specs.Rules.{IsBoard};
+ghost use Rattle.board_parts.specs.declared.commands.Command.{Command};
+ghost use Rattle.board_parts.specs.declared.limits.TheConstants.{MAX_COMMANDS};
+ghost use Rattle.board_parts.specs.declared.parts.BoardParts.{BoardParts};
+ghost use Rattle.board_parts.specs.Commands.{IsCommandOf};
+ghost use Rattle.board_parts.specs.Rules.{IsBoard};
 ghost use Rattle.board_reader.specs.Reading.{reading};
 ghost use Rattle.board_text.specs.declared.spelling.Version.TheVariants.{First, Second};
 ghost use Rattle.board_text.specs.Spelled.{spelled, told_of, IsOfFirstVersion};

@@ -1,5 +1,5 @@
 ghost use Rattle.std.specs.Prelude.{◌≡◌, ◌++◌, [], All, IfOk, OnOk};
-ghost use Rattle.board_model.specs.Commands.{IsCommandOf};
+ghost use Rattle.board_parts.specs.Commands.{IsCommandOf};
 ghost use Rattle.board_reader.specs.declared.forms.Form.TheVariants as form;
 ghost use Rattle.board_text.specs.Spelled.{line, board_line, wire_lines, clear_lines, via_lines, item_lines, spelled};
 

@@ -1,7 +1,7 @@
 ghost use Rattle.std.specs.Prelude.{◌≡◌, ◌++◌, ◌∷◌, [], ◌<◌, length, OnOk};
 ghost use Rattle.std.specs.Fmt.{signed_decimal};
 ghost use Rattle.std.specs.List.{flat_map, range_with_len};
-ghost use Rattle.board_model.specs.Lookup.{kind_name, class_name};
+ghost use Rattle.board_parts.specs.Lookup.{kind_name, class_name};
 ghost use Rattle.board_reader.specs.declared.forms.Form.TheVariants as form;
 ghost use Rattle.board_text.specs.Spelled.{kind_line, pad_line, pad_lines, inner_line, inner_lines, via_lines, kind_at, line};
 

@@ -1,7 +1,7 @@
 ghost use Rattle.std.specs.Prelude.{◌≡◌, ◌++◌, ◌<◌, length, OnOk};
 ghost use Rattle.std.specs.Fmt.{signed_decimal};
 ghost use Rattle.std.specs.List.{flat_map, range_with_len};
-ghost use Rattle.board_model.specs.Lookup.{layer_at};
+ghost use Rattle.board_parts.specs.Lookup.{layer_at};
 ghost use Rattle.board_text.specs.Spelled.{spaced, version_word, board_line, layer_line, class_line, rule_line, rule_lines, wire_lines};
 
 use crate::spelling::Version;

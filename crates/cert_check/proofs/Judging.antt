@@ -3,7 +3,7 @@ use Rattle.std.proofs.Common.{◌≡◌, ℕ, List, Option, Some, None, refl, �
 use Rattle.std.specs.Prelude.{IfSome, IfNone}
 use Rattle.geo_rect.specs.declared.ids.Spot.{Spot}
 use Rattle.board_model.specs.declared.made.Conn.{Conn}
-use Rattle.board_model.specs.declared.parts.BoardParts.{BoardParts}
+use Rattle.board_parts.specs.declared.parts.BoardParts.{BoardParts}
 use Rattle.plane_set.specs.Places.{EachAt}
 use Rattle.route_law.specs.declared.certs.Cert.{Cert}
 use Rattle.route_law.specs.declared.certs.Entry.{Entry}

@@ -2,7 +2,7 @@
 ghost use Rattle.std.specs.Prelude.{◌≡◌, ◌↔◌, List, Option};
 ghost use Rattle.geo_rect.specs.declared.ids.Spot.{Spot};
 ghost use Rattle.board_model.specs.declared.made.Conn.{Conn};
-ghost use Rattle.board_model.specs.declared.parts.BoardParts.{BoardParts};
+ghost use Rattle.board_parts.specs.declared.parts.BoardParts.{BoardParts};
 ghost use Rattle.route_law.specs.declared.certs.Cert.{Cert};
 ghost use Rattle.route_law.specs.Ground.{Ground};
 ghost use Rattle.cert_check.specs.declared.verdicts.Verdict.{Verdict};

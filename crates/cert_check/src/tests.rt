@@ -1,13 +1,13 @@
 ghost use Rattle.std.specs.Prelude.{All, IfSome, IsTrue};
 ghost use Rattle.std.specs.Option.{option_copied};
-ghost use Rattle.board_model.specs.Rules.{IsOnBoard};
+ghost use Rattle.board_parts.specs.Rules.{IsOnBoard};
 ghost use Rattle.board_model.specs.Shapes.{place_of};
 ghost use Rattle.board_model.specs.WellFormed.{IsCoordinate, IsPlace};
 ghost use Rattle.walk_check.specs.Corners.{HasPlaces};
 ghost use Rattle.strip_moves.specs.Boxes.{IsBoardBox};
 
 use crate::{Verdict, Why, check};
-use board_model::{Block, Board, BoardParts, Conn, Leg, Pin, Rule};
+use board_model::{Block, Board, BoardParts, Conn, Leg, Pin, Rule, is_board};
 use flat_plane::FlatPlane;
 use geo_rect::{ClassId, LayerId, List, NetId, NoMemory, Node, Rect, Spot, Text};
 use plane_core::Plane;
@@ -55,7 +55,7 @@ fn fill(alloc: Global, parts: &mut BoardParts, wall: Rect) -> Result<(), NoMemor
 fn board_with(rt: &impl Abort, alloc: Global, wall: Rect) -> Result<Board, NoMemory> {
     let mut parts = BoardParts::new(alloc, "wall", 40, 20)?;
     fill(alloc, &mut parts, wall)?;
-    assert!(rt; parts.is_board());
+    assert!(rt; is_board(&parts));
     Board::build(alloc, parts)
 }
 

@@ -2,7 +2,7 @@
 use Rattle.std.proofs.Common.{◌≡◌, ℕ, ◌+◌, ◌-◌, ◌≤◌, ◌<◌, ◌==◌, Bool, true, false, cond, List, [], ◌∷◌, ◌++◌, length, map, take, drop, Option, Some, None, Ok, Err, Result, refl, sym, ap, ◌∙◌, subst, inl, inr, arith}
 use Rattle.std.proofs.lemmas.List.{length-append, length-drop, take_all}
 use Rattle.std.specs.List.{flat_map}
-use Rattle.board_model.specs.declared.parts.BoardParts.{BoardParts}
+use Rattle.board_parts.specs.declared.parts.BoardParts.{BoardParts}
 use Rattle.board_reader.specs.Lines.{onto, pieces, lines, without_return}
 use Rattle.board_reader.specs.Reading.{reading, Told}
 use Rattle.board_reader.specs.Splits.{split_of}

@@ -1,7 +1,7 @@
 -- Endings of a part of a call as endings of the call.
 use Rattle.std.proofs.Common.{◌≡◌, ℕ, Bool, List, Option, Some, None, inr}
-use Rattle.board_model.specs.declared.commands.Command.{Command}
-use Rattle.board_model.specs.declared.parts.BoardParts.{BoardParts}
+use Rattle.board_parts.specs.declared.commands.Command.{Command}
+use Rattle.board_parts.specs.declared.parts.BoardParts.{BoardParts}
 use Rattle.board_reader.specs.Reading.{Told}
 use Rattle.contour.specs.declared.endings.Ending.{Ending}
 use Rattle.contour.specs.declared.endings.Ending.TheVariants.{BadWords, TooLong, Refused, Wrong, ReadFault, WriteFault, NoMemory}

@@ -2,9 +2,9 @@
 use Rattle.std.proofs.Common.{◌≡◌, ℕ, Bool, true, false, List, Option, Ok, Err, Result, IsOk, OnOk, IfErr, IsErrAnd, sym, ◌∙◌, ap, subst}
 use Rattle.std.proofs.lemmas.Bool.{false≢true}
 use Rattle.io_edge.specs.Streams.{Appends, AppendsPart, Rose}
-use Rattle.board_model.specs.declared.commands.Command.{Command}
+use Rattle.board_parts.specs.declared.commands.Command.{Command}
 use Rattle.board_model.specs.declared.made.Conn.{Conn}
-use Rattle.board_model.specs.declared.parts.BoardParts.{BoardParts}
+use Rattle.board_parts.specs.declared.parts.BoardParts.{BoardParts}
 use Rattle.route_law.specs.declared.replies.Reply.{Reply}
 use Rattle.route_law.specs.Regular.{IsRegular}
 use Rattle.route_law.specs.Steps.{IsStep}

@@ -4,11 +4,11 @@ use Rattle.std.proofs.lemmas.List.Elements.{All-nil, All-cons}
 use Rattle.io_edge.specs.Streams.{Appends}
 use Rattle.board_gen.specs.Generated.{asked, generated, generated_board}
 use Rattle.board_gen.proofs.GoodBoard.{asked-of-any, generated-is-board, generated-is-read}
-use Rattle.board_model.specs.declared.commands.Command.{Command}
-use Rattle.board_model.specs.declared.commands.Command.TheVariants as command
+use Rattle.board_parts.specs.declared.commands.Command.{Command}
+use Rattle.board_parts.specs.declared.commands.Command.TheVariants as command
 use Rattle.board_model.specs.declared.made.Conn.{Conn}
-use Rattle.board_model.specs.declared.parts.BoardParts.{BoardParts}
-use Rattle.board_model.specs.Rules.{IsBoard}
+use Rattle.board_parts.specs.declared.parts.BoardParts.{BoardParts}
+use Rattle.board_parts.specs.Rules.{IsBoard}
 use Rattle.board_reader.specs.declared.inputs.Input.{Input}
 use Rattle.board_reader.specs.declared.refusals.ReadInput.{ReadInput}
 use Rattle.board_reader.specs.declared.refusals.ReadInput.TheVariants as input

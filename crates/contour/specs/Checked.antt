@@ -1,7 +1,7 @@
 -- An input with replies to be checked: a board text, a line `replies`, and the text of replies.
 use Rattle.std.specs.Prelude.{◌≡◌, ℕ, ◌+◌, ◌≤◌, ◌⊎◌, List, length, take, drop, Option, Some, None, Ok, Err}
 use Rattle.io_edge.specs.Streams.{Appends, AppendsPart}
-use Rattle.board_model.specs.declared.parts.BoardParts.{BoardParts}
+use Rattle.board_parts.specs.declared.parts.BoardParts.{BoardParts}
 use Rattle.board_reader.specs.Lines.{lines}
 use Rattle.board_reader.specs.Reading.{reading, Told}
 use Rattle.board_reader.specs.Splits.{split_of}

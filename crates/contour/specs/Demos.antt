@@ -2,10 +2,10 @@
 use Rattle.std.specs.Prelude.{◌≡◌, ℕ, true, ◌⊎◌, List, [], ◌∷◌, ◌++◌, Option, Ok}
 use Rattle.io_edge.specs.Streams.{Appends, AppendsPart, Rose}
 use Rattle.board_gen.specs.Generated.{generated}
-use Rattle.board_model.specs.declared.commands.Command.{Command}
-use Rattle.board_model.specs.declared.commands.Command.TheVariants as command
+use Rattle.board_parts.specs.declared.commands.Command.{Command}
+use Rattle.board_parts.specs.declared.commands.Command.TheVariants as command
 use Rattle.board_model.specs.declared.made.Conn.{Conn}
-use Rattle.board_model.specs.declared.parts.BoardParts.{BoardParts}
+use Rattle.board_parts.specs.declared.parts.BoardParts.{BoardParts}
 use Rattle.board_reader.specs.Reading.{reading, Told}
 use Rattle.demo_text.specs.Summary.{summary}
 use Rattle.reply_text.specs.Texts.{replies_text}

@@ -3,8 +3,8 @@ use Rattle.std.specs.Prelude.{◌≡◌, ℕ, Bool, ◌++◌, List, Option, code
 use Rattle.io_edge.specs.Streams.{AppendsPart, Rose}
 use Rattle.io_edge.specs.declared.reading.ReadEnd.{ReadEnd}
 use Rattle.io_edge.specs.declared.reading.ReadEnd.TheVariants as read
-use Rattle.board_model.specs.declared.parts.BoardParts.{BoardParts}
-use Rattle.board_model.specs.declared.commands.Command.{Command}
+use Rattle.board_parts.specs.declared.parts.BoardParts.{BoardParts}
+use Rattle.board_parts.specs.declared.commands.Command.{Command}
 use Rattle.board_model.specs.declared.made.Conn.{Conn}
 use Rattle.board_reader.specs.declared.refusals.ReadInput.{ReadInput}
 use Rattle.board_reader.specs.declared.refusals.ReadInput.TheVariants as input

@@ -1,7 +1,7 @@
 //! The replies to the commands of a board text, each written before the next command is begun.
 ghost use Rattle.std.specs.Prelude.{◌≡◌, ◌≤◌, All, Err, IsOk, OnOk, IfOk, IfErr};
 ghost use Rattle.io_edge.specs.Streams.{Appends};
-ghost use Rattle.board_model.specs.Commands.{IsCommandOf};
+ghost use Rattle.board_parts.specs.Commands.{IsCommandOf};
 ghost use Rattle.route_law.specs.Regular.{IsRegular};
 ghost use Rattle.reply_text.specs.Texts.{reply_text};
 ghost use Rattle.contour.specs.Answers.{AnswersAll};

@@ -1,7 +1,7 @@
 ghost use Rattle.std.specs.Prelude.{◌≡◌, ◌≤◌, ◌↔◌, ◌⊎◌, [], map, string_bytes, All, OnOk, IfErr};
 ghost use Rattle.io_edge.specs.Streams.{Appends, Rose, IsToldAs};
 ghost use Rattle.board_gen.specs.Generated.{generated};
-ghost use Rattle.board_model.specs.Commands.{IsCommandOf};
+ghost use Rattle.board_parts.specs.Commands.{IsCommandOf};
 ghost use Rattle.contour.specs.Answers.{AnswersAll};
 ghost use Rattle.contour.specs.Causes.{EndsAttempt, EndsCall, HasBeenCut, HasDone, HasFoundWrong, HasRead, HasRunOut, IsBeforeReplies, IsUnwritten, MustAccept, MustRefuse, Refuses, TellsStatus};
 ghost use Rattle.contour.specs.Endings.{EndsAnswers, EndsSending};

@@ -1,6 +1,6 @@
 //! Replies that are handed in are checked against the commands of their board text.
 ghost use Rattle.std.specs.Prelude.{◌≤◌, ◌^◌, ◌<◌, All, length, IfOk, IfErr};
-ghost use Rattle.board_model.specs.Commands.{IsCommandOf};
+ghost use Rattle.board_parts.specs.Commands.{IsCommandOf};
 ghost use Rattle.board_reader.specs.Contract.{told_by};
 ghost use Rattle.reply_reader.specs.Readings.{IsReadingOf};
 ghost use Rattle.contour.specs.Checked.{AreRight, EndsChecking, EndsJudging, EndsReplies, EndsUnsplit, IsRightCount};

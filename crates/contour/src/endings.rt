@@ -25,7 +25,7 @@ pub enum Status {
 }
 
 /// Why a call of the program did not end with `Done`.
-#[derive(Clone, Copy, Debug, PartialEq, Eq)]
+#[derive(Clone, Copy)]
 pub enum Ending {
     BadWords,
     TooLong,

@@ -1,6 +1,6 @@
 ghost use Rattle.std.specs.Prelude.{◌≡◌, [], ◌≤◌, All, OnOk, IfOk, IfErr};
 ghost use Rattle.io_edge.specs.Streams.{IsToldAs};
-ghost use Rattle.board_model.specs.Commands.{IsCommandOf};
+ghost use Rattle.board_parts.specs.Commands.{IsCommandOf};
 ghost use Rattle.board_reader.specs.Contract.{told_by};
 ghost use Rattle.contour.specs.Endings.{EndsReading};
 ghost use Rattle.contour.specs.Inputs.{IfTold, IsAcceptedAs};

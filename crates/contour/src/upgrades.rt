@@ -1,7 +1,7 @@
 //! A board text written again as one of the second version.
 ghost use Rattle.std.specs.Prelude.{◌≡◌, ◌≤◌, [], All, OnOk, IfErr};
 ghost use Rattle.io_edge.specs.Streams.{Appends, IsToldAs};
-ghost use Rattle.board_model.specs.Commands.{IsCommandOf};
+ghost use Rattle.board_parts.specs.Commands.{IsCommandOf};
 ghost use Rattle.board_reader.specs.Contract.{told_by};
 ghost use Rattle.text_upgrade.specs.Upgraded.{upgraded};
 ghost use Rattle.contour.specs.Causes.{EndsCall, HasDone, IsBeforeReplies};

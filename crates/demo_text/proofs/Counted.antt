@@ -10,16 +10,16 @@ use Rattle.geo_rect.specs.declared.ids.Node.{Node}
 use Rattle.geo_rect.specs.declared.ids.Spot.{Spot}
 use Rattle.geo_rect.specs.Distance.{apart}
 use Rattle.geo_rect.specs.Line.{between}
-use Rattle.board_model.specs.declared.commands.Command.{Command}
+use Rattle.board_parts.specs.declared.commands.Command.{Command}
 use Rattle.board_model.specs.declared.made.Conn.{Conn}
 use Rattle.board_model.specs.declared.made.Leg.{Leg}
 use Rattle.board_model.specs.declared.made.Leg.TheVariants.{Wire, Via}
-use Rattle.board_model.specs.declared.parts.BoardParts.{BoardParts}
-use Rattle.board_model.specs.declared.parts.Pin.{Pin}
+use Rattle.board_parts.specs.declared.parts.BoardParts.{BoardParts}
+use Rattle.board_parts.specs.declared.parts.Pin.{Pin}
 use Rattle.board_model.specs.declared.shapes.Shape.{Shape}
-use Rattle.board_model.specs.Lookup.{kind_of}
+use Rattle.board_parts.specs.Lookup.{kind_of}
 use Rattle.board_model.specs.Made.{with_conn}
-use Rattle.board_model.specs.Rules.{IsBoard, IsKind}
+use Rattle.board_parts.specs.Rules.{IsBoard, IsKind}
 use Rattle.board_model.specs.Shapes.{end_of}
 use Rattle.board_model.specs.WellFormed.{IsCoordinate, IsCorner, IsStep as IsLegStep, AreSteps}
 use Rattle.route_law.specs.declared.replies.Fail.{Fail}
@@ -85,7 +85,8 @@ module _ (b : BoardParts) (board : IsBoard b) where
   few_made lists n missing made None e = omega (arith, e)
   few_made lists n missing made (Some f) k = omega (arith, k.0)
 
-  routed_counted : (old new : List (List Conn)) (r : Routed) → IsRouted b old r new → IsCounted r
+  -- what came of a net is counted in few steps
+  pub routed_counted : (old new : List (List Conn)) (r : Routed) → IsRouted b old r new → IsCounted r
   routed_counted old new r routed =
       let few = few_needed r.net in
       record {

@@ -1,10 +1,10 @@
 -- What keeps the sums of a summary small.
 use Rattle.std.specs.Prelude.{◌*◌, ◌^◌, ◌≤◌, List, length, All}
-use Rattle.board_model.specs.declared.commands.Command.{Command}
-use Rattle.board_model.specs.declared.limits.TheConstants.{MAX_NETS, MAX_PINS}
+use Rattle.board_parts.specs.declared.commands.Command.{Command}
+use Rattle.board_parts.specs.declared.limits.TheConstants.{MAX_NETS, MAX_PINS}
 use Rattle.board_model.specs.declared.made.Conn.{Conn}
-use Rattle.board_model.specs.declared.parts.BoardParts.{BoardParts}
-use Rattle.board_model.specs.Rules.{IsBoard}
+use Rattle.board_parts.specs.declared.parts.BoardParts.{BoardParts}
+use Rattle.board_parts.specs.Rules.{IsBoard}
 use Rattle.route_law.specs.declared.replies.Made1.{Made1}
 use Rattle.route_law.specs.declared.replies.Reply.{Reply}
 use Rattle.route_law.specs.declared.replies.Routed.{Routed}

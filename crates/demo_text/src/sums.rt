@@ -53,7 +53,8 @@ fn cost_of_net(net: &Routed) -> u128
     cost
 }
 
-/// What the connections that were made cost together, in micrometres of wire.
+/// What the connections that were made cost together, in micrometres of wire: the sum over what came
+/// of some nets of a board, of which no more are told than a board may have.
 pub fn cost_in(nets: &[Routed]) -> u128
     requires { AreCounted nets.now }
     ensures { result ≡ cost_in nets.now }

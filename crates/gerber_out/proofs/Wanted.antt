@@ -5,7 +5,7 @@ use Rattle.std.proofs.lemmas.Bool.{and_parts}
 use Rattle.geo_rect.proofs.Tests.{Decides-int_lt}
 use Rattle.geo_rect.specs.declared.ids.LayerId.{LayerId}
 use Rattle.geo_rect.specs.declared.shapes.Rect.{Rect}
-use Rattle.board_model.specs.Rules.{IsOnBoard}
+use Rattle.board_parts.specs.Rules.{IsOnBoard}
 use Rattle.board_model.specs.declared.shapes.Shape.{Shape}
 use Rattle.gerber_out.specs.Contours.{IsFillable}
 use Rattle.gerber_out.specs.Layers.{has_area, has_owner, is_wanted, IsWritable}

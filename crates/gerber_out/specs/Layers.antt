@@ -4,7 +4,7 @@ use Rattle.std.specs.List.{flat_map}
 use Rattle.geo_rect.specs.declared.ids.LayerId.{LayerId}
 use Rattle.geo_rect.specs.declared.ids.NetId.{NetId}
 use Rattle.geo_rect.specs.declared.shapes.Rect.{Rect}
-use Rattle.board_model.specs.Rules.{IsOnBoard}
+use Rattle.board_parts.specs.Rules.{IsOnBoard}
 use Rattle.board_model.specs.declared.shapes.Shape.{Shape}
 use Rattle.gerber_out.specs.declared.spelling.Line.{Line}
 use Rattle.gerber_out.specs.declared.spelling.Line.TheVariants.{Plain, Draw}

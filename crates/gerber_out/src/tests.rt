@@ -3,7 +3,7 @@ ghost use Rattle.gerber_out.specs.Layers.{IsWritable};
 
 use crate::reading::{ReadLayer, read_layer};
 use crate::writing::layer_text;
-use board_model::{Board, BoardParts, Rule, Shape};
+use board_model::{Board, BoardParts, Rule, Shape, is_board};
 use geo_rect::{LayerId, NetId, NoMemory, Rect, Text};
 use std::alloc::Global;
 use std::test::Fail;
@@ -19,7 +19,7 @@ fn small_board(alloc: Global) -> Result<Option<Board>, NoMemory> {
     parts.classes.push(Text::from_str(alloc, "sig")?)?;
     parts.rules.push(Rule { half: 1, gap: 2 })?;
     parts.gaps.push(2)?;
-    if parts.is_board() {
+    if is_board(&parts) {
         return Ok(Some(Board::build(alloc, parts)?));
     }
     Ok(None)

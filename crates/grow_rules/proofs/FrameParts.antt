@@ -7,8 +7,8 @@ use Rattle.geo_rect.specs.declared.shapes.Point.{Point}
 use Rattle.geo_rect.specs.declared.shapes.Rect.{Rect}
 use Rattle.geo_rect.specs.Axis.{HasNumber}
 use Rattle.geo_rect.specs.Plane.{HasPoint, rect_of, square}
-use Rattle.board_model.specs.declared.parts.BoardParts.{BoardParts}
-use Rattle.board_model.specs.Rules.{IsOnBoard}
+use Rattle.board_parts.specs.declared.parts.BoardParts.{BoardParts}
+use Rattle.board_parts.specs.Rules.{IsOnBoard}
 use Rattle.grow_rules.specs.Frames.{IsBoardPoint, IsWhole, IsLowEnd, IsHighEnd}
 
 -- the rectangle has exactly the points of the board of one sort, and their squares leave the board

@@ -8,11 +8,11 @@ use Rattle.geo_rect.specs.declared.shapes.Point.{Point}
 use Rattle.geo_rect.specs.declared.shapes.Rect.{Rect}
 use Rattle.geo_rect.specs.Plane.{HasPoint, IsBounded, IsGrown, IsTooClose, square}
 use Rattle.geo_rect.proofs.Squares.{grown_square}
-use Rattle.board_model.specs.declared.parts.BoardParts.{BoardParts}
+use Rattle.board_parts.specs.declared.parts.BoardParts.{BoardParts}
 use Rattle.board_model.specs.declared.shapes.Shape.{Shape}
-use Rattle.board_model.specs.Lookup.{rule_of, pad_on, kind_of}
-use Rattle.board_model.specs.Rules.{IsBoard, IsMeasure, IsOnBoard}
-use Rattle.board_model.specs.Spacing.{gap_to}
+use Rattle.board_parts.specs.Lookup.{rule_of, pad_on, kind_of}
+use Rattle.board_parts.specs.Rules.{IsBoard, IsMeasure, IsOnBoard}
+use Rattle.board_parts.specs.Gaps.{gap_to}
 use Rattle.board_model.specs.Labels.{Hits, IsInSpan, wire_plane, via_plane}
 use Rattle.board_model.proofs.LabelHits.{wire_hits, via_hits}
 use Rattle.board_model.specs.Known.{IsNearOrigin}

@@ -1,6 +1,6 @@
 //! The ends of a board's side, on one axis.
 
-ghost use Rattle.board_model.specs.Rules.{IsSide, IsMeasure};
+ghost use Rattle.board_parts.specs.Rules.{IsSide, IsMeasure};
 ghost use Rattle.grow_rules.specs.Frames.{IsWhole, IsLowEnd, IsHighEnd};
 
 use geo_rect::Interval;

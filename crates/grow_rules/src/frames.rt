@@ -4,7 +4,7 @@ ghost use Rattle.std.specs.Prelude.{◌≡◌, ◌⊎◌, length, All, Any};
 ghost use Rattle.geo_rect.specs.declared.shapes.Point.{Point};
 ghost use Rattle.geo_rect.specs.declared.shapes.Rect.{Rect};
 ghost use Rattle.geo_rect.specs.Plane.{HasPoint, square};
-ghost use Rattle.board_model.specs.Rules.{IsMeasure, IsOnBoard};
+ghost use Rattle.board_parts.specs.Rules.{IsMeasure, IsOnBoard};
 ghost use Rattle.grow_rules.specs.Frames.{IsBoardPoint};
 
 use crate::ends::{high_end, low_end, whole};

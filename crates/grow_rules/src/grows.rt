@@ -4,9 +4,9 @@ ghost use Rattle.std.specs.Prelude.{◌≡◌, ◌<◌, ◌↔◌, length, pos};
 ghost use Rattle.geo_rect.specs.declared.shapes.Point.{Point};
 ghost use Rattle.geo_rect.specs.Plane.{HasPoint, IsBounded, IsTooClose, square};
 ghost use Rattle.board_model.specs.Known.{IsKnown, IsNearOrigin};
-ghost use Rattle.board_model.specs.Lookup.{rule_of, pad_on, kind_of};
+ghost use Rattle.board_parts.specs.Lookup.{rule_of, pad_on, kind_of};
 ghost use Rattle.board_model.specs.Labels.{Hits, IsInSpan, wire_plane, via_plane};
-ghost use Rattle.board_model.specs.Rules.{IsMeasure, IsOnBoard};
+ghost use Rattle.board_parts.specs.Rules.{IsMeasure, IsOnBoard};
 
 use board_model::{Board, Shape};
 use geo_rect::{ClassId, KindId, LayerId, Rect, grown};

@@ -2,7 +2,7 @@ ghost use Rattle.std.specs.Prelude.{◌≡◌};
 ghost use Rattle.board_model.specs.Known.{IsKnown, IsNearOrigin};
 
 use crate::{frame, via_grow, via_keep, wire_grow, wire_keep};
-use board_model::{Board, BoardParts, Rule, Shape, ViaKind};
+use board_model::{Board, BoardParts, Rule, Shape, ViaKind, has_area, is_board};
 use geo_rect::{ClassId, KindId, LayerId, NetId, NoMemory, Rect, Text};
 use std::alloc::Global;
 use std::process::Abort;
@@ -56,7 +56,7 @@ fn parts_of(alloc: Global, width: i32, height: i32) -> Result<BoardParts, NoMemo
 
 fn board_of(rt: &impl Abort, alloc: Global, width: i32, height: i32) -> Result<Board, NoMemory> {
     let parts = parts_of(alloc, width, height)?;
-    assert!(rt; parts.is_board());
+    assert!(rt; is_board(&parts));
     Board::build(alloc, parts)
 }
 
@@ -155,7 +155,7 @@ fn grows_for_vias(rt: HostRuntime) -> Result<(), Fail> {
 fn keeps_wires_out(rt: HostRuntime) -> Result<(), Fail> {
     let board = board_of(&rt, rt.alloc(), 40, 20)?;
     let area = rect_of(&rt, BLOCK);
-    assert!(rt; board.parts.has_area(area));
+    assert!(rt; has_area(&board.parts, area));
     for (layer, class, want) in [
         (0, 0, [17, -1, 23, 15]),
         (0, 1, [15, -3, 25, 17]),
@@ -175,7 +175,7 @@ fn keeps_vias_out(rt: HostRuntime) -> Result<(), Fail> {
     assert!(rt; 0 < board.kinds());
     let kind = board.kind(KindId(0));
     let area = rect_of(&rt, BLOCK);
-    assert!(rt; board.parts.has_area(area));
+    assert!(rt; has_area(&board.parts, area));
     for (layer, class, want) in [
         (0, 0, [12, -6, 28, 20]),
         (1, 0, [15, -3, 25, 17]),

@@ -4,7 +4,7 @@ use Rattle.std.specs.Prelude.{Contains, Option, unwrap_or}
 use Rattle.std.proofs.lemmas.Bool.{cases_eq}
 use Rattle.std.proofs.lemmas.Option.{slice_get_within, get_or_from_slice_get, slice_get-get_or, slice_get_read}
 use Rattle.geo_rect.specs.declared.ids.NetId.{NetId}
-use Rattle.board_model.specs.declared.parts.BoardParts.{BoardParts}
+use Rattle.board_parts.specs.declared.parts.BoardParts.{BoardParts}
 use Rattle.net_trace.specs.declared.copper.Piece.{Piece}
 use Rattle.net_trace.specs.declared.traced.Group.{Group}
 use Rattle.net_trace.specs.declared.traced.OpenNet.{OpenNet}

@@ -8,8 +8,8 @@ use Rattle.geo_rect.specs.declared.ids.NetId.{NetId}
 use Rattle.geo_rect.specs.declared.ids.Node.{Node}
 use Rattle.board_model.specs.declared.made.Conn.{Conn}
 use Rattle.board_model.specs.declared.made.Leg.{Leg}
-use Rattle.board_model.specs.declared.parts.BoardParts.{BoardParts}
-use Rattle.board_model.specs.Rules.{IsBoard, IsPin}
+use Rattle.board_parts.specs.declared.parts.BoardParts.{BoardParts}
+use Rattle.board_parts.specs.Rules.{IsBoard, IsPin}
 use Rattle.board_model.specs.Shapes.{end_of}
 use Rattle.net_trace.specs.declared.copper.Piece.{Piece}
 use Rattle.net_trace.specs.Pieces.{pin_piece, leg_piece, legs_pieces, conn_pieces, made_pieces, pieces_of}

@@ -2,7 +2,7 @@
 use Rattle.std.proofs.Common.{◌≡◌, ℕ, ◌<◌, List, length, get_or, subst, arith}
 use Rattle.std.proofs.lemmas.Option.{slice_get-get_or}
 use Rattle.geo_rect.specs.declared.ids.NetId.{NetId}
-use Rattle.board_model.specs.declared.parts.BoardParts.{BoardParts}
+use Rattle.board_parts.specs.declared.parts.BoardParts.{BoardParts}
 use Rattle.net_trace.specs.declared.copper.Piece.{Piece}
 use Rattle.net_trace.specs.declared.traced.Group.{Group}
 use Rattle.net_trace.specs.declared.traced.OpenNet.{OpenNet}

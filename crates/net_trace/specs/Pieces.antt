@@ -8,11 +8,11 @@ use Rattle.geo_rect.specs.declared.ids.Spot.{Spot}
 use Rattle.board_model.specs.declared.made.Conn.{Conn}
 use Rattle.board_model.specs.declared.made.Leg.{Leg}
 use Rattle.board_model.specs.declared.made.Leg.TheVariants.{Wire, Via}
-use Rattle.board_model.specs.declared.parts.BoardParts.{BoardParts}
-use Rattle.board_model.specs.declared.parts.Pin.{Pin}
+use Rattle.board_parts.specs.declared.parts.BoardParts.{BoardParts}
+use Rattle.board_parts.specs.declared.parts.Pin.{Pin}
 use Rattle.board_model.specs.declared.shapes.Shape.{Shape}
 use Rattle.board_model.specs.Boxes.{pin_boxes}
-use Rattle.board_model.specs.Lookup.{kind_of}
+use Rattle.board_parts.specs.Lookup.{kind_of}
 use Rattle.board_model.specs.Shapes.{leg_shapes, end_of}
 use Rattle.net_trace.specs.declared.copper.Piece.{Piece}
 

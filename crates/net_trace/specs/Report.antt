@@ -3,7 +3,7 @@
 use Rattle.std.specs.Prelude.{ℕ, ◌≡◌, ◌≢◌, ◌<◌, ◌≤◌, List, length, AllPairs, Contains, Some, slice_get}
 use Rattle.geo_rect.specs.declared.ids.NetId.{NetId}
 use Rattle.board_model.specs.declared.made.Conn.{Conn}
-use Rattle.board_model.specs.declared.parts.BoardParts.{BoardParts}
+use Rattle.board_parts.specs.declared.parts.BoardParts.{BoardParts}
 use Rattle.net_trace.specs.declared.copper.Piece.{Piece}
 use Rattle.net_trace.specs.declared.traced.Group.{Group}
 use Rattle.net_trace.specs.declared.traced.OpenNet.{OpenNet}

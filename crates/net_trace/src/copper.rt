@@ -3,7 +3,7 @@
 ghost use Rattle.std.specs.Prelude.{◌≡◌, ◌++◌, ◌∷◌, [], ◌<◌, length, map, All, IfOk, OnOk};
 ghost use Rattle.std.specs.List.{flat_map};
 ghost use Rattle.board_model.specs.Boxes.{spot_on, pin_boxes};
-ghost use Rattle.board_model.specs.Lookup.{layers_from};
+ghost use Rattle.board_parts.specs.Lookup.{layers_from};
 ghost use Rattle.board_model.specs.Shapes.{leg_shapes};
 ghost use Rattle.board_model.specs.WellFormed.{IsCorner, IsStep, IsWellFormed, AreWellFormed};
 ghost use Rattle.net_trace.specs.Pieces.{spot_of, pin_piece, leg_piece, conn_pieces, pieces_of};

@@ -1,7 +1,7 @@
 use crate::copper::Piece;
 use crate::flood::groups;
 use crate::traced::{Traced, report};
-use board_model::{Board, BoardParts, Made, Pin, Rule};
+use board_model::{Board, BoardParts, Made, Pin, Rule, is_board};
 use geo_rect::{ClassId, LayerId, List, NetId, NoMemory, Rect, Spot, Text};
 use std::alloc::Global;
 use std::test::Fail;
@@ -35,7 +35,7 @@ fn board_of(alloc: Global, pins: &[Pin]) -> Result<Option<Board>, NoMemory> {
     parts.net_classes.push(ClassId(0))?;
     parts.net_classes.push(ClassId(0))?;
     parts.pins.extend_from_slice(pins)?;
-    if parts.is_board() {
+    if is_board(&parts) {
         return Ok(Some(Board::build(alloc, parts)?));
     }
     Ok(None)

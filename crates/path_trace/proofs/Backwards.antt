@@ -17,10 +17,10 @@ use Rattle.geo_rect.proofs.Nearest.{away_one, find_away}
 use Rattle.geo_rect.proofs.Parts.{lies_in_points}
 use Rattle.board_model.specs.declared.made.Leg.{Leg}
 use Rattle.board_model.specs.declared.made.Leg.TheVariants.{Wire, Via}
-use Rattle.board_model.specs.declared.parts.BoardParts.{BoardParts}
-use Rattle.board_model.specs.declared.parts.ViaKind.{ViaKind}
+use Rattle.board_parts.specs.declared.parts.BoardParts.{BoardParts}
+use Rattle.board_parts.specs.declared.parts.ViaKind.{ViaKind}
 use Rattle.board_model.specs.Labels.{IsInSpan}
-use Rattle.board_model.specs.Lookup.{kind_of}
+use Rattle.board_parts.specs.Lookup.{kind_of}
 use Rattle.board_model.specs.Shapes.{place_of}
 use Rattle.board_model.specs.WellFormed.{IsVia}
 use Rattle.route_law.specs.declared.certs.Entry.{Entry}

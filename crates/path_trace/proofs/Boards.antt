@@ -12,8 +12,8 @@ use Rattle.geo_rect.specs.Plane.{HasPoint}
 use Rattle.geo_rect.proofs.Nearest.{away_one, find_away}
 use Rattle.board_model.specs.declared.made.Conn.{Conn}
 use Rattle.board_model.specs.declared.made.Leg.{Leg}
-use Rattle.board_model.specs.declared.parts.BoardParts.{BoardParts}
-use Rattle.board_model.specs.Rules.{IsBoard}
+use Rattle.board_parts.specs.declared.parts.BoardParts.{BoardParts}
+use Rattle.board_parts.specs.Rules.{IsBoard}
 use Rattle.board_model.specs.Shapes.{place_of}
 use Rattle.board_model.specs.WellFormed.{IsPlace, IsWellFormed}
 use Rattle.plane_set.specs.Standing.{PlaneTable, HasPlanes}

@@ -9,7 +9,7 @@ use Rattle.geo_rect.specs.Plane.{HasPoint}
 use Rattle.geo_rect.proofs.Steps.{between-self}
 use Rattle.board_model.specs.declared.made.Leg.{Leg}
 use Rattle.board_model.specs.declared.made.Leg.TheVariants.{Wire}
-use Rattle.board_model.specs.declared.parts.BoardParts.{BoardParts}
+use Rattle.board_parts.specs.declared.parts.BoardParts.{BoardParts}
 use Rattle.board_model.specs.Shapes.{place_of, end_of}
 use Rattle.board_model.specs.WellFormed.{IsCorner}
 use Rattle.route_law.specs.Connections.{steps_of_leg, steps_of_legs, node_toward, units, IsStraight}

@@ -9,8 +9,8 @@ use Rattle.geo_rect.specs.Distance.{apart}
 use Rattle.geo_rect.specs.Plane.{HasPoint}
 use Rattle.board_model.specs.declared.made.Leg.{Leg}
 use Rattle.board_model.specs.declared.made.Leg.TheVariants.{Wire, Via}
-use Rattle.board_model.specs.declared.parts.BoardParts.{BoardParts}
-use Rattle.board_model.specs.Lookup.{kind_of}
+use Rattle.board_parts.specs.declared.parts.BoardParts.{BoardParts}
+use Rattle.board_parts.specs.Lookup.{kind_of}
 use Rattle.board_model.specs.Shapes.{place_of, end_of}
 use Rattle.board_model.specs.WellFormed.{IsPlace, IsCorner, IsVia, AreSteps}
 use Rattle.route_law.specs.declared.certs.Entry.{Entry}

@@ -7,7 +7,7 @@ use Rattle.geo_rect.specs.declared.shapes.Rect.{Rect}
 use Rattle.geo_rect.specs.Distance.{apart, IsAway}
 use Rattle.geo_rect.specs.Plane.{HasPoint}
 use Rattle.board_model.specs.declared.made.Leg.TheVariants.{Wire}
-use Rattle.board_model.specs.declared.parts.BoardParts.{BoardParts}
+use Rattle.board_parts.specs.declared.parts.BoardParts.{BoardParts}
 use Rattle.board_model.specs.Shapes.{place_of}
 use Rattle.route_law.specs.declared.certs.Entry.{Entry}
 use Rattle.route_law.specs.declared.certs.Origin.{Origin}

@@ -4,7 +4,7 @@ ghost use Rattle.std.specs.Prelude.{◌≡◌, ℕ, ◌+◌, ◌<◌, List, Some
 ghost use Rattle.geo_rect.specs.declared.ids.Node.{Node as Place};
 ghost use Rattle.geo_rect.specs.declared.ids.Spot.{Spot as Box};
 ghost use Rattle.geo_rect.specs.Distance.{IsAway};
-ghost use Rattle.board_model.specs.declared.parts.BoardParts.{BoardParts};
+ghost use Rattle.board_parts.specs.declared.parts.BoardParts.{BoardParts};
 ghost use Rattle.board_model.specs.Shapes.{place_of};
 ghost use Rattle.board_model.specs.WellFormed.{IsWellFormed};
 ghost use Rattle.plane_set.specs.Standing.{HasPlanes};

@@ -9,7 +9,7 @@ use Rattle.geo_rect.specs.declared.ids.Label.TheVariants.{Free, Many}
 use Rattle.geo_rect.specs.declared.shapes.Point.{Point}
 use Rattle.geo_rect.specs.declared.shapes.Rect.{Rect}
 use Rattle.geo_rect.specs.Plane.{HasPoint, LiesIn, IsMeet, ShareNoPoint}
-use Rattle.board_model.specs.declared.parts.BoardParts.{BoardParts}
+use Rattle.board_parts.specs.declared.parts.BoardParts.{BoardParts}
 use Rattle.board_model.specs.Labels.{PlaneRule, label_among}
 use Rattle.board_model.proofs.LabelLaws.{label_among-nil_allowed, label_among-nil_shut}
 use Rattle.grow_rules.specs.Frames.{IsBoardPoint}

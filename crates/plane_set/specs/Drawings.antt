@@ -3,7 +3,7 @@ use Rattle.std.specs.Prelude.{◌≡◌, pos, List, map}
 use Rattle.geo_rect.specs.declared.shapes.Point.{Point}
 use Rattle.geo_rect.specs.declared.shapes.Rect.{Rect}
 use Rattle.geo_rect.specs.Plane.{HasPoint}
-use Rattle.board_model.specs.declared.parts.BoardParts.{BoardParts}
+use Rattle.board_parts.specs.declared.parts.BoardParts.{BoardParts}
 use Rattle.board_model.specs.declared.shapes.Shape.{Shape}
 use Rattle.board_model.specs.Labels.{PlaneRule, with_shape, label_among}
 use Rattle.plane_core.specs.declared.strips.Strip.{Strip}

@@ -1,7 +1,7 @@
 -- The planes come in rows: a row of wire planes for each layer, and a row of via planes for each kind.
 use Rattle.std.specs.Prelude.{◌≡◌, ℕ, List, length, All}
 use Rattle.geo_rect.specs.declared.ids.ClassId.{ClassId}
-use Rattle.board_model.specs.declared.parts.BoardParts.{BoardParts}
+use Rattle.board_parts.specs.declared.parts.BoardParts.{BoardParts}
 use Rattle.board_model.specs.declared.shapes.Shape.{Shape}
 use Rattle.board_model.specs.Labels.{PlaneRule, wire_plane, via_plane}
 use Rattle.plane_set.specs.declared.families.Family.{Family}

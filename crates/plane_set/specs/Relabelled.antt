@@ -2,7 +2,7 @@
 use Rattle.std.specs.Prelude.{◌≡◌, ℕ, List, ◌++◌}
 use Rattle.geo_rect.specs.declared.shapes.Point.{Point}
 use Rattle.geo_rect.specs.Plane.{HasPoint}
-use Rattle.board_model.specs.declared.parts.BoardParts.{BoardParts}
+use Rattle.board_parts.specs.declared.parts.BoardParts.{BoardParts}
 use Rattle.board_model.specs.declared.shapes.Shape.{Shape}
 use Rattle.board_model.specs.Labels.{PlaneRule, Hits, label_among}
 use Rattle.board_model.specs.Shapes.{board_shapes}

@@ -2,8 +2,8 @@
 use Rattle.std.specs.Prelude.{List, ◌⊎◌}
 use Rattle.geo_rect.specs.declared.shapes.Point.{Point}
 use Rattle.geo_rect.specs.declared.shapes.Rect.{Rect}
-use Rattle.board_model.specs.declared.parts.BoardParts.{BoardParts}
-use Rattle.board_model.specs.declared.parts.Keepout.{Keepout}
+use Rattle.board_parts.specs.declared.parts.BoardParts.{BoardParts}
+use Rattle.board_parts.specs.declared.parts.Keepout.{Keepout}
 use Rattle.board_model.specs.Labels.{PlaneRule, Shuts, IsAllowed}
 use Rattle.grow_rules.specs.Frames.{IsBoardPoint}
 use Rattle.plane_set.specs.Joins.{IsInOneOf}

@@ -6,7 +6,7 @@ ghost use Rattle.geo_rect.specs.declared.shapes.Point.{Point};
 ghost use Rattle.geo_rect.specs.Plane.{HasPoint};
 ghost use Rattle.board_model.specs.Known.{IsKnown};
 ghost use Rattle.board_model.specs.Labels.{Hits, Shuts, wire_plane, via_plane};
-ghost use Rattle.board_model.specs.Rules.{IsKeepout, IsMeasure};
+ghost use Rattle.board_parts.specs.Rules.{IsKeepout, IsMeasure};
 ghost use Rattle.plane_set.specs.Families.{rows_in, rule_in};
 
 use board_model::{Board, Keepout, Shape};

@@ -1,7 +1,7 @@
 //! A law of planes that stand for shapes. The function does nothing: its contract is the law.
 
 ghost use Rattle.std.specs.Prelude.{◌↔◌, List, Contains};
-ghost use Rattle.board_model.specs.declared.parts.BoardParts.{BoardParts};
+ghost use Rattle.board_parts.specs.declared.parts.BoardParts.{BoardParts};
 ghost use Rattle.board_model.specs.declared.shapes.Shape.{Shape};
 ghost use Rattle.plane_set.specs.Standing.{PlaneTable, StandsFor};
 

@@ -3,7 +3,7 @@
 ghost use Rattle.std.specs.Prelude.{◌≡◌, ◌<◌, ◌↔◌, List, length, IsTrue};
 ghost use Rattle.board_model.specs.declared.shapes.Shape.{Shape as OneShape};
 ghost use Rattle.board_model.specs.Labels.{Admits, IsPassable};
-ghost use Rattle.board_model.specs.Lookup.{class_of};
+ghost use Rattle.board_parts.specs.Lookup.{class_of};
 ghost use Rattle.board_model.specs.Shapes.{place_of};
 ghost use Rattle.grow_rules.specs.Frames.{IsBoardPoint};
 ghost use Rattle.plane_set.specs.Standing.{wire_label, HasPlanes, StandsFor};

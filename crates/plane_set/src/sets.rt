@@ -1,6 +1,6 @@
 ghost use Rattle.std.specs.Prelude.{◌≡◌, ◌<◌, ◌∷◌, ◌++◌, [], List, length, All, IfOk, IsSome, Some, slice_get, slice_index_or};
 ghost use Rattle.board_model.specs.declared.shapes.Shape.{Shape as OneShape};
-ghost use Rattle.board_model.specs.declared.parts.BoardParts.{BoardParts};
+ghost use Rattle.board_parts.specs.declared.parts.BoardParts.{BoardParts};
 ghost use Rattle.board_model.specs.Labels.{wire_plane, via_plane};
 ghost use Rattle.board_model.specs.Known.{IsKnown};
 ghost use Rattle.board_model.specs.Shapes.{board_shapes};
@@ -40,15 +40,23 @@ impl<P: Plane> Model for PlaneSet<P> {
 }
 
 impl<P: Plane> PlaneSet<P> {
+    /// The planes of these shapes, each of which is one that may stand on the board.
+    pub fn of(alloc: Global, board: &Board, shapes: &[Shape]) -> Result<PlaneSet<P>, NoMemory>
+        requires { All (IsKnown board.now.parts) shapes.now }
+        ensures { IfOk result (λ set. StandsFor board.now.parts shapes.now set) }
+    {
+        let wires = build_rows(alloc, board, Family::Wires, shapes)?;
+        let vias = build_rows(alloc, board, Family::Vias, shapes)?;
+        Ok(PlaneSet { wires, vias })
+    }
+
     /// The planes of the board alone: of its blockages and its pins.
     pub fn build(alloc: Global, board: &Board) -> Result<PlaneSet<P>, NoMemory>
         ensures { IfOk result (λ set. StandsFor board.now.parts (board_shapes board.now.parts) set) }
     {
         let made = Made::none(alloc, board)?;
         let shapes = all_shapes(alloc, board, &made)?;
-        let wires = build_rows(alloc, board, Family::Wires, shapes.as_slice())?;
-        let vias = build_rows(alloc, board, Family::Vias, shapes.as_slice())?;
-        Ok(PlaneSet { wires, vias })
+        PlaneSet::of(alloc, board, shapes.as_slice())
     }
 
     /// The planes with one more shape, which is one that may stand on the board. After `NoMemory` the

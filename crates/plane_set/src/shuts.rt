@@ -1,7 +1,7 @@
 //! Where a plane is left to no net whatever stands on the board.
 
 ghost use Rattle.std.specs.Prelude.{◌<◌, length, IfOk, OnOk};
-ghost use Rattle.board_model.specs.Rules.{IsKeepout};
+ghost use Rattle.board_parts.specs.Rules.{IsKeepout};
 ghost use Rattle.plane_set.specs.Families.{rows_in, rule_in};
 ghost use Rattle.plane_set.specs.Shutting.{AreShutAreas, HaveShutPoints};
 

@@ -5,7 +5,9 @@ ghost use Rattle.grow_rules.specs.Frames.{IsBoardPoint};
 ghost use Rattle.plane_set.specs.Standing.{HasPlanes};
 
 use crate::PlaneSet;
-use board_model::{Block, Board, BoardParts, Keepout, Made, Pin, Rule, Shape, ViaKind, all_shapes};
+use board_model::{
+    Block, Board, BoardParts, Keepout, Made, Pin, Rule, Shape, ViaKind, all_shapes, is_board,
+};
 use flat_plane::FlatPlane;
 use geo_rect::{ClassId, KindId, Label, LayerId, NetId, NoMemory, Node, Point, Rect, Text};
 use plane_core::{Plane, Strips};
@@ -76,7 +78,7 @@ fn parts_of(
 }
 
 fn board_of(rt: &impl Abort, alloc: Global, parts: BoardParts) -> Result<Board, NoMemory> {
-    assert!(rt; parts.is_board());
+    assert!(rt; is_board(&parts));
     Board::build(alloc, parts)
 }
 

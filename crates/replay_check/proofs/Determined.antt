@@ -1,9 +1,9 @@
 -- A command and its reply determine the state to which they lead.
 use Rattle.std.proofs.Common.{ℕ, ◌≡◌, ◌+◌, List, [], ◌∷◌, sym, ◌∙◌, subst}
 use Rattle.geo_rect.specs.declared.ids.NetId.{NetId}
-use Rattle.board_model.specs.declared.commands.Command.{Command}
+use Rattle.board_parts.specs.declared.commands.Command.{Command}
 use Rattle.board_model.specs.declared.made.Conn.{Conn}
-use Rattle.board_model.specs.declared.parts.BoardParts.{BoardParts}
+use Rattle.board_parts.specs.declared.parts.BoardParts.{BoardParts}
 use Rattle.board_model.specs.Made.{with_conn}
 use Rattle.route_law.specs.declared.replies.Made1.{Made1}
 use Rattle.route_law.specs.declared.replies.Reply.{Reply}

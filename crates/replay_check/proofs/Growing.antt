@@ -10,12 +10,12 @@ use Rattle.geo_rect.specs.declared.ids.Node.{Node}
 use Rattle.board_model.specs.declared.made.Conn.{Conn}
 use Rattle.board_model.specs.declared.made.Leg.{Leg}
 use Rattle.board_model.specs.declared.made.Leg.TheVariants.{Wire, Via}
-use Rattle.board_model.specs.declared.parts.BoardParts.{BoardParts}
+use Rattle.board_parts.specs.declared.parts.BoardParts.{BoardParts}
 use Rattle.board_model.specs.declared.shapes.Shape.{Shape}
 use Rattle.board_model.specs.Known.{IsKnown}
-use Rattle.board_model.specs.Lookup.{rule_of, kind_of, class_of, layers_from}
+use Rattle.board_parts.specs.Lookup.{rule_of, kind_of, class_of, layers_from}
 use Rattle.board_model.specs.Made.{conns_of, with_conn, without_conns}
-use Rattle.board_model.specs.Rules.{IsBoard}
+use Rattle.board_parts.specs.Rules.{IsBoard}
 use Rattle.board_model.specs.Segments.{segment}
 use Rattle.board_model.specs.Shapes.{board_shapes, conn_shapes, legs_shapes, leg_shapes, state_shapes, net_shape, via_shape, place_of, end_of}
 use Rattle.board_model.specs.WellFormed.{IsWellFormed, AreWellFormed}

@@ -1,6 +1,7 @@
 pub mod Alike
 pub mod Determined
 pub mod Growing
+pub mod Leaving
 pub mod Listing
 pub mod Next
 pub mod OnBoard

@@ -7,9 +7,9 @@ use Rattle.geo_rect.specs.declared.ids.Node.{Node}
 use Rattle.geo_rect.specs.declared.ids.Spot.{Spot}
 use Rattle.board_model.specs.declared.made.Conn.{Conn}
 use Rattle.board_model.specs.declared.made.Leg.{Leg}
-use Rattle.board_model.specs.declared.parts.BoardParts.{BoardParts}
+use Rattle.board_parts.specs.declared.parts.BoardParts.{BoardParts}
 use Rattle.board_model.specs.Boxes.{source_boxes}
-use Rattle.board_model.specs.Rules.{IsBoard}
+use Rattle.board_parts.specs.Rules.{IsBoard}
 use Rattle.board_model.specs.Shapes.{place_of, end_of, state_shapes}
 use Rattle.board_model.specs.WellFormed.{IsPlace, AreSteps, IsWellFormed}
 use Rattle.cert_check.specs.Verdicts.{IsMatch, IsGood}

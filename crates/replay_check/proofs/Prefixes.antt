@@ -2,9 +2,9 @@
 use Rattle.std.proofs.Common.{ℕ, zero, suc, ◌≡◌, ◌+◌, ◌<◌, ◌≤◌, ◌⊎◌, inl, inr, List, [], ◌∷◌, ◌++◌, length, take, refl, sym, ap, subst, arith}
 use Rattle.std.proofs.lemmas.Bool.{cases_lt}
 use Rattle.std.proofs.lemmas.List.{take_all, take-take, length-take-le}
-use Rattle.board_model.specs.declared.commands.Command.{Command}
+use Rattle.board_parts.specs.declared.commands.Command.{Command}
 use Rattle.board_model.specs.declared.made.Conn.{Conn}
-use Rattle.board_model.specs.declared.parts.BoardParts.{BoardParts}
+use Rattle.board_parts.specs.declared.parts.BoardParts.{BoardParts}
 use Rattle.route_law.specs.declared.replies.Reply.{Reply}
 use Rattle.route_law.specs.Steps.{IsFirstWrong, IsRun, IsRunFrom, IsStep, nothing_made}
 use Rattle.route_law.proofs.Running.{run-next}

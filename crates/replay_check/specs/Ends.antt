@@ -1,7 +1,7 @@
 -- What the end of a replay says of the replies.
 use Rattle.std.specs.Prelude.{List}
-use Rattle.board_model.specs.declared.commands.Command.{Command}
-use Rattle.board_model.specs.declared.parts.BoardParts.{BoardParts}
+use Rattle.board_parts.specs.declared.commands.Command.{Command}
+use Rattle.board_parts.specs.declared.parts.BoardParts.{BoardParts}
 use Rattle.route_law.specs.declared.replies.Reply.{Reply}
 use Rattle.route_law.specs.Steps.{IsRun, IsFirstWrong}
 use Rattle.replay_check.specs.declared.ends.ReplayEnd.{ReplayEnd}

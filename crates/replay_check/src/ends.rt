@@ -1,7 +1,7 @@
 //! The end of a replay.
 
 ghost use Rattle.std.specs.Prelude.{◌+◌, ◌<◌, length, All, IfOk, IfSome, IfNone};
-ghost use Rattle.board_model.specs.Commands.{IsCommandOf};
+ghost use Rattle.board_parts.specs.Commands.{IsCommandOf};
 ghost use Rattle.route_law.specs.Steps.{IsFirstWrong};
 ghost use Rattle.replay_check.specs.Ends.{IsEndOf};
 ghost use Rattle.replay_check.specs.Runs.{HasRun};

@@ -1,8 +1,8 @@
 //! What the end of a replay says. The function does nothing: its contract is the law.
 
 ghost use Rattle.std.specs.Prelude.{◌≡◌, ℕ, List};
-ghost use Rattle.board_model.specs.declared.commands.Command.{Command};
-ghost use Rattle.board_model.specs.declared.parts.BoardParts.{BoardParts};
+ghost use Rattle.board_parts.specs.declared.commands.Command.{Command};
+ghost use Rattle.board_parts.specs.declared.parts.BoardParts.{BoardParts};
 ghost use Rattle.route_law.specs.declared.replies.Reply.{Reply};
 ghost use Rattle.route_law.specs.Steps.{IsFirstWrong, IsRun};
 

@@ -2,6 +2,7 @@
 //! without a search.
 #![tactic(auto)]
 
+mod after;
 mod ends;
 mod laws;
 mod listed;
@@ -11,5 +12,6 @@ mod states;
 mod steps;
 mod verdicts;
 
+pub use after::state_after;
 pub use ends::{ReplayEnd, replay, replay_commands};
 pub use laws::a_wrong_reply_is_no_run;

@@ -73,7 +73,7 @@ impl<P: Plane> UnderWay<P> {
 }
 
 /// The same connection once more.
-fn copy_conn(alloc: Global, conn: &Conn) -> Result<Conn, NoMemory>
+pub fn copy_conn(alloc: Global, conn: &Conn) -> Result<Conn, NoMemory>
     ensures { IfOk result (λ c. c ≡ conn.now) }
 {
     Ok(Conn {

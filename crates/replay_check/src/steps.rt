@@ -2,7 +2,7 @@
 
 ghost use Rattle.std.specs.Prelude.{◌≡◌, ◌<◌, ◌↔◌, List, length, IfOk, IfSome, IfNone, IsTrue};
 ghost use Rattle.board_model.specs.declared.made.Conn.{Conn as OneConn};
-ghost use Rattle.board_model.specs.Commands.{IsCommandOf};
+ghost use Rattle.board_parts.specs.Commands.{IsCommandOf};
 ghost use Rattle.board_model.specs.Made.{conns_of, without_conns};
 ghost use Rattle.board_model.specs.Shapes.{state_shapes};
 ghost use Rattle.board_model.specs.Violations.{violations_of};

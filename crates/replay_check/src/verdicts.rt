@@ -3,7 +3,7 @@
 ghost use Rattle.std.specs.Prelude.{◌≡◌, ◌+◌, ◌<◌, ◌↔◌, length, IfOk, IfSome, IsTrue};
 ghost use Rattle.std.specs.Option.{option_copied};
 ghost use Rattle.board_model.specs.Boxes.{source_boxes, target_boxes};
-ghost use Rattle.board_model.specs.Lookup.{pins_of};
+ghost use Rattle.board_parts.specs.Lookup.{pins_of};
 ghost use Rattle.board_model.specs.Made.{conns_of};
 ghost use Rattle.cert_check.specs.declared.verdicts.Verdict.TheVariants.{Yes};
 ghost use Rattle.cert_check.specs.Verdicts.{IsGood};

@@ -15,17 +15,17 @@ use Rattle.geo_rect.specs.declared.ids.Node.{Node}
 use Rattle.geo_rect.specs.declared.shapes.Rect.{Rect}
 use Rattle.board_model.specs.declared.made.Leg.{Leg}
 use Rattle.board_model.specs.declared.made.Leg.TheVariants as leg
-use Rattle.board_model.specs.declared.parts.BoardParts.{BoardParts}
+use Rattle.board_parts.specs.declared.parts.BoardParts.{BoardParts}
 use Rattle.board_model.specs.declared.shapes.Owned.{Owned}
 use Rattle.board_model.specs.declared.shapes.Violation.{Violation}
 use Rattle.board_model.specs.declared.shapes.Violation.TheVariants.{Close, Outline}
-use Rattle.board_model.specs.Rules.{IsBoard, AreNames}
+use Rattle.board_parts.specs.Rules.{IsBoard, AreNames}
 use Rattle.plane_core.specs.declared.strips.Strip.{Strip}
 use Rattle.route_law.specs.declared.certs.Entry.{Entry}
 use Rattle.route_law.specs.declared.certs.Origin.{Origin}
 use Rattle.route_law.specs.declared.certs.Origin.TheVariants as origin
 use Rattle.route_law.specs.Regular.{IsLayerOf, IsKindOf, IsNetOf}
-use Rattle.board_model.specs.Lookup.{layer_name, class_name, kind_name, net_name}
+use Rattle.board_parts.specs.Lookup.{layer_name, class_name, kind_name, net_name}
 use Rattle.reply_reader.specs.declared.heads.CertHead.{CertHead}
 use Rattle.reply_reader.specs.declared.heads.ConnHead.{ConnHead}
 use Rattle.reply_reader.specs.declared.heads.Head.{Head}

@@ -24,8 +24,8 @@ use Rattle.geo_rect.specs.declared.ids.LayerId.{LayerId}
 use Rattle.geo_rect.specs.declared.ids.NetId.{NetId}
 use Rattle.geo_rect.specs.declared.ids.Node.{Node}
 use Rattle.board_model.specs.declared.made.Leg.{Leg}
-use Rattle.board_model.specs.declared.parts.BoardParts.{BoardParts}
-use Rattle.board_model.specs.Rules.{IsBoard}
+use Rattle.board_parts.specs.declared.parts.BoardParts.{BoardParts}
+use Rattle.board_parts.specs.Rules.{IsBoard}
 use Rattle.route_law.specs.declared.certs.Entry.{Entry}
 use Rattle.reply_reader.specs.declared.heads.CertHead.{CertHead}
 use Rattle.reply_reader.specs.declared.heads.ConnHead.{ConnHead}

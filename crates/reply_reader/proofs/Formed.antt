@@ -5,7 +5,7 @@ use Rattle.std.specs.List.{AllByRecursion as ByRecursion}
 use Rattle.std.proofs.lemmas.List.{append-nil}
 use Rattle.std.proofs.lemmas.List.Elements.{All-from_recursion}
 use Rattle.std.proofs.lemmas.Int.{ints}
-use Rattle.board_model.specs.Known.{IsOwner}
+use Rattle.board_parts.specs.Owners.{IsOwner}
 use Rattle.reply_text.specs.Texts.{area_text, node_text, conn_line, at_line, wire_line, via_line, leg_text, cert_line, origin_text, entry_text, none_line, route_line, all_line, rip_line, show_line, rules_line, owned_text, close_line, outline_line, violation_text, strips_line, label_text, strip_text}
 use Rattle.reply_reader.proofs.Decimals.{digits_above}
 use Rattle.reply_reader.proofs.Standing.{conn_head_stands, start_stands, leg_stands, cert_head_stands, entry_stands, none_head_stands, route_head_stands, head_stands, violation_stands, strip_stands}
@@ -20,17 +20,17 @@ use Rattle.geo_rect.specs.declared.ids.Node.{Node}
 use Rattle.geo_rect.specs.declared.shapes.Rect.{Rect}
 use Rattle.board_model.specs.declared.made.Leg.{Leg}
 use Rattle.board_model.specs.declared.made.Leg.TheVariants as leg
-use Rattle.board_model.specs.declared.parts.BoardParts.{BoardParts}
+use Rattle.board_parts.specs.declared.parts.BoardParts.{BoardParts}
 use Rattle.board_model.specs.declared.shapes.Owned.{Owned}
 use Rattle.board_model.specs.declared.shapes.Violation.{Violation}
 use Rattle.board_model.specs.declared.shapes.Violation.TheVariants.{Close, Outline}
-use Rattle.board_model.specs.Rules.{IsBoard, AreNames}
+use Rattle.board_parts.specs.Rules.{IsBoard, AreNames}
 use Rattle.plane_core.specs.declared.strips.Strip.{Strip}
 use Rattle.route_law.specs.declared.certs.Entry.{Entry}
 use Rattle.route_law.specs.declared.certs.Origin.{Origin}
 use Rattle.route_law.specs.declared.certs.Origin.TheVariants as origin
 use Rattle.route_law.specs.Regular.{IsLayerOf, IsKindOf, IsNetOf, IsFromZero, IsRegularNode, IsRegularOrigin, IsRegularOwned, IsRegularLabel}
-use Rattle.board_model.specs.Lookup.{layer_name, class_name, kind_name, net_name}
+use Rattle.board_parts.specs.Lookup.{layer_name, class_name, kind_name, net_name}
 use Rattle.reply_text.specs.Texts.{bound_text}
 use Rattle.reply_reader.specs.declared.heads.Head.{Head}
 use Rattle.reply_reader.specs.declared.heads.Head.TheVariants as head

@@ -4,9 +4,9 @@ use Rattle.std.specs.Fmt.{signed_decimal}
 use Rattle.geo_rect.specs.declared.ids.ClassId.{ClassId}
 use Rattle.geo_rect.specs.declared.ids.Node.{Node}
 use Rattle.geo_rect.specs.declared.shapes.Rect.{Rect}
-use Rattle.board_model.specs.declared.parts.BoardParts.{BoardParts}
+use Rattle.board_parts.specs.declared.parts.BoardParts.{BoardParts}
 use Rattle.route_law.specs.Regular.{IsLayerOf}
-use Rattle.board_model.specs.Lookup.{layer_name}
+use Rattle.board_parts.specs.Lookup.{layer_name}
 use Rattle.reply_reader.specs.Forms.{word}
 use Rattle.reply_reader.specs.InRange.{IsCoordinate}
 

@@ -1,6 +1,6 @@
 -- The replies that a text spells, and the line that is refused where it spells none.
 use Rattle.std.specs.Prelude.{◌≡◌, ℕ, List, All, false}
-use Rattle.board_model.specs.declared.parts.BoardParts.{BoardParts}
+use Rattle.board_parts.specs.declared.parts.BoardParts.{BoardParts}
 use Rattle.route_law.specs.declared.replies.Reply.{Reply}
 use Rattle.route_law.specs.Regular.{IsRegular}
 use Rattle.reply_text.specs.Texts.{replies_text}

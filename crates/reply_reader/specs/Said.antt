@@ -11,7 +11,7 @@ use Rattle.geo_rect.specs.declared.ids.Node.{Node}
 use Rattle.geo_rect.specs.declared.shapes.Rect.{Rect}
 use Rattle.board_model.specs.declared.made.Leg.{Leg}
 use Rattle.board_model.specs.declared.made.Leg.TheVariants as leg
-use Rattle.board_model.specs.declared.parts.BoardParts.{BoardParts}
+use Rattle.board_parts.specs.declared.parts.BoardParts.{BoardParts}
 use Rattle.board_model.specs.declared.shapes.Owned.{Owned}
 use Rattle.board_model.specs.declared.shapes.Violation.{Violation}
 use Rattle.board_model.specs.declared.shapes.Violation.TheVariants.{Close, Outline}
@@ -21,7 +21,7 @@ use Rattle.route_law.specs.declared.certs.Origin.{Origin}
 use Rattle.route_law.specs.declared.certs.Origin.TheVariants as origin
 use Rattle.route_law.specs.Regular.{IsLayerOf, IsKindOf, IsNetOf, IsRegularNode, IsRegularLeg, IsRegularEntry, IsRegularViolation, IsRegularStrip}
 use Rattle.route_law.specs.Routing.{conns_needed}
-use Rattle.board_model.specs.Lookup.{layer_name, class_name, kind_name, net_name}
+use Rattle.board_parts.specs.Lookup.{layer_name, class_name, kind_name, net_name}
 use Rattle.reply_text.specs.Texts.{conn_line, at_line, leg_text, bound_text, cert_line, entry_text, none_line, route_line, all_line, rip_line, show_line, rules_line, violation_text, strips_line, strip_text}
 use Rattle.reply_reader.specs.declared.heads.CertHead.{CertHead}
 use Rattle.reply_reader.specs.declared.heads.ConnHead.{ConnHead}

@@ -1,6 +1,6 @@
 ghost use Rattle.std.specs.Prelude.{◌≡◌, ◌≢◌, ◌<◌, ◌≤◌, ◌+◌, ◌^◌, ℕ, ℤ, length, decimal, IfSome, IfNone, IsTrue, ◌↔◌};
 ghost use Rattle.std.specs.Str.{IsAscii};
-ghost use Rattle.board_model.specs.declared.parts.BoardParts.{BoardParts};
+ghost use Rattle.board_parts.specs.declared.parts.BoardParts.{BoardParts};
 ghost use Rattle.geo_rect.specs.declared.ids.ClassId.{ClassId};
 ghost use Rattle.geo_rect.specs.declared.ids.KindId.{KindId};
 ghost use Rattle.geo_rect.specs.declared.ids.LayerId.{LayerId};
@@ -8,7 +8,7 @@ ghost use Rattle.geo_rect.specs.declared.ids.NetId.{NetId};
 ghost use Rattle.geo_rect.specs.declared.ids.Node.{Node};
 ghost use Rattle.geo_rect.specs.declared.shapes.Rect.{Rect};
 ghost use Rattle.route_law.specs.Regular.{IsLayerOf, IsKindOf, IsNetOf};
-ghost use Rattle.board_model.specs.Lookup.{layer_name, class_name, kind_name, net_name};
+ghost use Rattle.board_parts.specs.Lookup.{layer_name, class_name, kind_name, net_name};
 ghost use Rattle.reply_reader.specs.Fields.{IsForm, IsClassOf, IsCoordinateAt, IsAreaAt, IsNodeAt};
 ghost use Rattle.reply_reader.specs.Forms.{word};
 

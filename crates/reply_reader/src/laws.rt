@@ -1,7 +1,7 @@
 //! The law of reading. The function does nothing: its contract is the law.
 ghost use Rattle.std.specs.Prelude.{◌≡◌, ℕ, List};
-ghost use Rattle.board_model.specs.declared.parts.BoardParts.{BoardParts};
-ghost use Rattle.board_model.specs.Rules.{IsBoard};
+ghost use Rattle.board_parts.specs.declared.parts.BoardParts.{BoardParts};
+ghost use Rattle.board_parts.specs.Rules.{IsBoard};
 ghost use Rattle.route_law.specs.declared.replies.Reply.{Reply};
 ghost use Rattle.reply_reader.specs.Readings.{IsReadingOf, IsRepliesText, IsRefusedLine};
 

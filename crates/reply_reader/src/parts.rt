@@ -1,5 +1,5 @@
 ghost use Rattle.std.specs.Prelude.{◌≡◌, ◌<◌, ℕ, List as Items, IfSome, IfNone};
-ghost use Rattle.board_model.specs.declared.parts.BoardParts.{BoardParts};
+ghost use Rattle.board_parts.specs.declared.parts.BoardParts.{BoardParts};
 ghost use Rattle.reply_reader.specs.Forms.{HasGood, IsLineForm};
 ghost use Rattle.reply_reader.specs.Parts.{Part, IsOne, counted, Tells};
 

@@ -11,4 +11,6 @@ mod strips;
 mod violations;
 mod words;
 
-pub use printing::print;
+pub use printing::{print, push_rip_line, push_show};
+pub use routes::push_routed;
+pub use words::{push_area, push_cost, push_count, push_name};

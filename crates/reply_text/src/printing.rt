@@ -50,8 +50,9 @@ fn push_all(
     push_each_routed(text, board, nets, quiet)
 }
 
+/// Adds the line that says how many connections of a net were removed.
 #[tactic(auto, unfolding(crate::specs::Texts::rip_line))]
-fn push_rip_line(
+pub fn push_rip_line(
     text: &mut List<u8>,
     board: &Board,
     net: NetId,
@@ -92,7 +93,8 @@ fn push_each_item(text: &mut List<u8>, board: &Board, items: &[Item]) -> Result<
     Ok(())
 }
 
-fn push_show(
+/// Adds the lines that list connections of a net.
+pub fn push_show(
     text: &mut List<u8>,
     board: &Board,
     net: NetId,

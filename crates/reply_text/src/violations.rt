@@ -1,6 +1,6 @@
 ghost use Rattle.std.specs.Prelude.{◌≡◌, ◌++◌, OnOk, All, length};
 ghost use Rattle.std.specs.List.{flat_map};
-ghost use Rattle.board_model.specs.Known.{IsOwner};
+ghost use Rattle.board_parts.specs.Owners.{IsOwner};
 ghost use Rattle.route_law.specs.Regular.{IsLayerOf, IsRegularOwned, IsRegularViolation};
 ghost use Rattle.reply_text.specs.Texts.{owner_text, owned_text, close_line, outline_line, violation_text, rules_line};
 

@@ -1,6 +1,6 @@
 ghost use Rattle.std.specs.Prelude.{◌≡◌, ◌++◌, ◌<◌, [], length, OnOk, codes, decimal};
 ghost use Rattle.std.specs.Fmt.{signed_decimal};
-ghost use Rattle.board_model.specs.Lookup.{layer_name};
+ghost use Rattle.board_parts.specs.Lookup.{layer_name};
 ghost use Rattle.reply_text.specs.Texts.{area_text, node_text};
 ghost use Rattle.route_law.specs.Regular.{IsRegularNode};
 

@@ -7,11 +7,11 @@ use Rattle.geo_rect.specs.declared.ids.NetId.{NetId}
 use Rattle.geo_rect.specs.declared.ids.Node.{Node}
 use Rattle.geo_rect.specs.declared.shapes.Point.{Point}
 use Rattle.geo_rect.specs.Plane.{HasPoint, square, lone}
-use Rattle.board_model.specs.declared.parts.BoardParts.{BoardParts}
+use Rattle.board_parts.specs.declared.parts.BoardParts.{BoardParts}
 use Rattle.board_model.specs.declared.shapes.Shape.{Shape}
 use Rattle.board_model.specs.Labels.{PlaneRule, wire_plane, via_plane, label_among, Admits, IsPassable, IsViaPassable}
-use Rattle.board_model.specs.Lookup.{class_of}
-use Rattle.board_model.specs.Rules.{IsOnBoard}
+use Rattle.board_parts.specs.Lookup.{class_of}
+use Rattle.board_parts.specs.Rules.{IsOnBoard}
 use Rattle.board_model.specs.Shapes.{place_of}
 use Rattle.board_model.proofs.LabelLaws.{admits_is_left}
 use Rattle.plane_core.specs.Labels.{label_of}

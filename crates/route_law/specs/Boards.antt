@@ -5,11 +5,11 @@ use Rattle.geo_rect.specs.declared.ids.LayerId.{LayerId}
 use Rattle.geo_rect.specs.declared.ids.NetId.{NetId}
 use Rattle.geo_rect.specs.declared.shapes.Point.{Point}
 use Rattle.geo_rect.specs.Plane.{HasPoint, lone}
-use Rattle.board_model.specs.declared.parts.BoardParts.{BoardParts}
+use Rattle.board_parts.specs.declared.parts.BoardParts.{BoardParts}
 use Rattle.board_model.specs.declared.shapes.Shape.{Shape}
 use Rattle.board_model.specs.Labels.{wire_plane, via_plane, label_among}
-use Rattle.board_model.specs.Lookup.{kind_of, class_of}
-use Rattle.board_model.specs.Rules.{IsOnBoard}
+use Rattle.board_parts.specs.Lookup.{kind_of, class_of}
+use Rattle.board_parts.specs.Rules.{IsOnBoard}
 use Rattle.plane_core.specs.Labels.{label_of}
 use Rattle.route_law.specs.Ground.{Ground, HasLayer, HasKind, IsGround}
 

@@ -2,7 +2,7 @@
 use Rattle.std.specs.Prelude.{◌≡◌, List}
 use Rattle.geo_rect.specs.declared.ids.Spot.{Spot}
 use Rattle.board_model.specs.declared.made.Conn.{Conn}
-use Rattle.board_model.specs.declared.parts.BoardParts.{BoardParts}
+use Rattle.board_parts.specs.declared.parts.BoardParts.{BoardParts}
 use Rattle.board_model.specs.WellFormed.{IsWellFormed}
 use Rattle.route_law.specs.Connections.{steps_of}
 use Rattle.route_law.specs.Ground.{Ground}

@@ -6,16 +6,16 @@ use Rattle.geo_rect.specs.Plane.{IsTooClose, square}
 use Rattle.board_model.specs.declared.made.Conn.{Conn}
 use Rattle.board_model.specs.declared.made.Leg.{Leg}
 use Rattle.board_model.specs.declared.made.Leg.TheVariants.{Wire, Via}
-use Rattle.board_model.specs.declared.parts.BoardParts.{BoardParts}
-use Rattle.board_model.specs.declared.parts.Keepout.{Keepout}
+use Rattle.board_parts.specs.declared.parts.BoardParts.{BoardParts}
+use Rattle.board_parts.specs.declared.parts.Keepout.{Keepout}
 use Rattle.board_model.specs.declared.shapes.Shape.{Shape}
 use Rattle.board_model.specs.Labels.{IsInSpan}
-use Rattle.board_model.specs.Lookup.{rule_of, pad_on, kind_of, class_of}
+use Rattle.board_parts.specs.Lookup.{rule_of, pad_on, kind_of, class_of}
 use Rattle.board_model.specs.Made.{conns_of}
-use Rattle.board_model.specs.Rules.{IsOnBoard}
+use Rattle.board_parts.specs.Rules.{IsOnBoard}
 use Rattle.board_model.specs.Segments.{segment}
 use Rattle.board_model.specs.Shapes.{place_of, end_of, made_shapes, state_shapes}
-use Rattle.board_model.specs.Spacing.{gap_between}
+use Rattle.board_parts.specs.Gaps.{gap_between}
 use Rattle.board_model.specs.WellFormed.{AreWellFormed}
 use Rattle.route_law.specs.Regular.{IsRegularConn}
 use Rattle.route_law.specs.Routing.{conns_needed}

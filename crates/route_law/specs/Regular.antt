@@ -11,11 +11,11 @@ use Rattle.geo_rect.specs.declared.shapes.Rect.{Rect}
 use Rattle.board_model.specs.declared.made.Conn.{Conn}
 use Rattle.board_model.specs.declared.made.Leg.{Leg}
 use Rattle.board_model.specs.declared.made.Leg.TheVariants.{Wire, Via}
-use Rattle.board_model.specs.declared.parts.BoardParts.{BoardParts}
+use Rattle.board_parts.specs.declared.parts.BoardParts.{BoardParts}
 use Rattle.board_model.specs.declared.shapes.Owned.{Owned}
 use Rattle.board_model.specs.declared.shapes.Violation.{Violation}
 use Rattle.board_model.specs.declared.shapes.Violation.TheVariants.{Close, Outline}
-use Rattle.board_model.specs.Known.{IsOwner}
+use Rattle.board_parts.specs.Owners.{IsOwner}
 use Rattle.plane_core.specs.declared.strips.Strip.{Strip}
 use Rattle.route_law.specs.declared.certs.Cert.{Cert}
 use Rattle.route_law.specs.declared.certs.Entry.{Entry}

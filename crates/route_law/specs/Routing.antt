@@ -4,9 +4,9 @@ use Rattle.std.specs.Prelude.{ℕ, ◌≡◌, ◌+◌, ◌-◌, ◌<◌, List, [
 use Rattle.geo_rect.specs.declared.ids.NetId.{NetId}
 use Rattle.geo_rect.specs.declared.ids.Spot.{Spot}
 use Rattle.board_model.specs.declared.made.Conn.{Conn}
-use Rattle.board_model.specs.declared.parts.BoardParts.{BoardParts}
+use Rattle.board_parts.specs.declared.parts.BoardParts.{BoardParts}
 use Rattle.board_model.specs.Boxes.{source_boxes, target_boxes}
-use Rattle.board_model.specs.Lookup.{pins_of}
+use Rattle.board_parts.specs.Lookup.{pins_of}
 use Rattle.board_model.specs.Made.{conns_of, with_conn}
 use Rattle.board_model.specs.Shapes.{state_shapes}
 use Rattle.route_law.specs.declared.certs.Cert.{Cert}

@@ -5,13 +5,13 @@ use Rattle.geo_rect.specs.declared.ids.LayerId.{LayerId}
 use Rattle.geo_rect.specs.declared.shapes.Point.{Point}
 use Rattle.geo_rect.specs.declared.shapes.Rect.{Rect}
 use Rattle.geo_rect.specs.Plane.{HasPoint, lone}
-use Rattle.board_model.specs.declared.commands.Command.{Command}
-use Rattle.board_model.specs.declared.commands.Command.TheVariants as command
+use Rattle.board_parts.specs.declared.commands.Command.{Command}
+use Rattle.board_parts.specs.declared.commands.Command.TheVariants as command
 use Rattle.board_model.specs.declared.made.Conn.{Conn}
-use Rattle.board_model.specs.declared.parts.BoardParts.{BoardParts}
+use Rattle.board_parts.specs.declared.parts.BoardParts.{BoardParts}
 use Rattle.board_model.specs.Labels.{wire_plane, label_among}
 use Rattle.board_model.specs.Made.{conns_of, without_conns}
-use Rattle.board_model.specs.Rules.{IsOnBoard}
+use Rattle.board_parts.specs.Rules.{IsOnBoard}
 use Rattle.board_model.specs.Shapes.{state_shapes}
 use Rattle.board_model.specs.Violations.{violations_of}
 use Rattle.plane_core.specs.declared.strips.Strip.{Strip}

@@ -4,7 +4,7 @@ ghost use Rattle.geo_rect.specs.declared.ids.KindId.{KindId};
 ghost use Rattle.geo_rect.specs.declared.ids.NetId.{NetId};
 ghost use Rattle.geo_rect.specs.declared.ids.Node.{Node};
 ghost use Rattle.geo_rect.specs.declared.shapes.Point.{Point};
-ghost use Rattle.board_model.specs.declared.parts.BoardParts.{BoardParts};
+ghost use Rattle.board_parts.specs.declared.parts.BoardParts.{BoardParts};
 ghost use Rattle.board_model.specs.declared.shapes.Shape.{Shape};
 ghost use Rattle.board_model.specs.Labels.{IsPassable, IsViaPassable};
 ghost use Rattle.route_law.specs.Boards.{IsGroundOf};

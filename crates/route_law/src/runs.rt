@@ -2,11 +2,11 @@
 //! contracts are the laws.
 ghost use Rattle.std.specs.Prelude.{◌≡◌, ◌+◌, ◌<◌, ◌++◌, ℕ, List, [], ◌∷◌, length};
 ghost use Rattle.geo_rect.specs.declared.ids.NetId.{NetId};
-ghost use Rattle.board_model.specs.declared.commands.Command.{Command};
+ghost use Rattle.board_parts.specs.declared.commands.Command.{Command};
 ghost use Rattle.board_model.specs.declared.made.Conn.{Conn};
-ghost use Rattle.board_model.specs.declared.parts.BoardParts.{BoardParts};
+ghost use Rattle.board_parts.specs.declared.parts.BoardParts.{BoardParts};
 ghost use Rattle.board_model.specs.Made.{with_conn};
-ghost use Rattle.board_model.specs.Rules.{IsBoard};
+ghost use Rattle.board_parts.specs.Rules.{IsBoard};
 ghost use Rattle.route_law.specs.declared.replies.Made1.{Made1};
 ghost use Rattle.route_law.specs.declared.replies.Reply.{Reply};
 ghost use Rattle.route_law.specs.declared.replies.Routed.{Routed};

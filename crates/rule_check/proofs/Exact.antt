@@ -7,13 +7,14 @@ use Rattle.geo_rect.specs.declared.ids.LayerId.{LayerId}
 use Rattle.geo_rect.specs.declared.ids.NetId.{NetId}
 use Rattle.geo_rect.specs.Plane.{IsTooClose}
 use Rattle.geo_rect.proofs.Tests.{Decides-are_too_close}
-use Rattle.board_model.specs.declared.parts.BoardParts.{BoardParts}
+use Rattle.board_parts.specs.declared.parts.BoardParts.{BoardParts}
 use Rattle.board_model.specs.declared.shapes.Owned.{Owned}
 use Rattle.board_model.specs.declared.shapes.Shape.{Shape}
 use Rattle.board_model.specs.declared.shapes.Violation.{Violation}
 use Rattle.board_model.specs.declared.shapes.Violation.TheVariants.{Close, Outline}
-use Rattle.board_model.specs.Rules.{IsOnBoard}
-use Rattle.board_model.specs.Spacing.{gap_between, is_same_owner, breaks_gap, keeps_outline}
+use Rattle.board_parts.specs.Rules.{IsOnBoard}
+use Rattle.board_parts.specs.Gaps.{gap_between}
+use Rattle.board_model.specs.Spacing.{is_same_owner, breaks_gap, keeps_outline}
 use Rattle.board_model.specs.Violations.{owned, outline_of, close_pair, close_of, violations_of}
 use Rattle.board_model.proofs.Decisions.{Decides-keeps_outline}
 use Rattle.rule_check.specs.Meaning.{shape_on, IsClosePair, IsOutside}

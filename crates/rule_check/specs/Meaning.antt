@@ -2,11 +2,11 @@
 use Rattle.std.specs.Prelude.{◌≡◌, ◌≢◌, ℕ, ◌<◌, List, Some, Contains, slice_get}
 use Rattle.geo_rect.specs.declared.ids.LayerId.{LayerId}
 use Rattle.geo_rect.specs.Plane.{IsTooClose}
-use Rattle.board_model.specs.declared.parts.BoardParts.{BoardParts}
+use Rattle.board_parts.specs.declared.parts.BoardParts.{BoardParts}
 use Rattle.board_model.specs.declared.shapes.Owned.{Owned}
 use Rattle.board_model.specs.declared.shapes.Shape.{Shape}
-use Rattle.board_model.specs.Rules.{IsOnBoard}
-use Rattle.board_model.specs.Spacing.{gap_between}
+use Rattle.board_parts.specs.Rules.{IsOnBoard}
+use Rattle.board_parts.specs.Gaps.{gap_between}
 
 -- the shape on a layer that a violation names
 abbrev pub shape_on : LayerId → Owned → Shape

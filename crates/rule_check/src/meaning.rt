@@ -1,6 +1,6 @@
 ghost use Rattle.std.specs.Prelude.{◌↔◌, List, Contains};
 ghost use Rattle.geo_rect.specs.declared.ids.LayerId.{LayerId};
-ghost use Rattle.board_model.specs.declared.parts.BoardParts.{BoardParts};
+ghost use Rattle.board_parts.specs.declared.parts.BoardParts.{BoardParts};
 ghost use Rattle.board_model.specs.declared.shapes.Owned.{Owned};
 ghost use Rattle.board_model.specs.declared.shapes.Shape.{Shape};
 ghost use Rattle.board_model.specs.declared.shapes.Violation.TheVariants.{Close, Outline};

@@ -4,14 +4,14 @@ ghost use Rattle.std.specs.Prelude.{◌≡◌, ◌++◌, OnOk, OnErr};
 ghost use Rattle.board_model.specs.Spacing.{keeps_outline};
 ghost use Rattle.board_model.specs.Violations.{outline_of};
 
-use board_model::{Board, Owned, Shape, Violation};
+use board_model::{Board, Owned, Shape, Violation, has_area};
 use geo_rect::{List, NoMemory, Rect};
 
 /// Whether the area lies in the board. It may touch the edge.
 fn keeps_outline(board: &Board, area: Rect) -> bool
     ensures { result ≡ keeps_outline board.now.parts area }
 {
-    board.parts.has_area(area)
+    has_area(&board.parts, area)
 }
 
 /// Adds the violation of a shape that leaves the board.

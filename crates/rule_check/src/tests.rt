@@ -2,7 +2,9 @@ ghost use Rattle.std.specs.Prelude.{◌≡◌, ◌<◌, length, IfOk};
 ghost use Rattle.board_model.specs.WellFormed.{AreWellFormed};
 
 use crate::checks::violations;
-use board_model::{Block, Board, BoardParts, Conn, Leg, Made, Owned, Pin, Rule, Violation};
+use board_model::{
+    Block, Board, BoardParts, Conn, Leg, Made, Owned, Pin, Rule, Violation, is_board,
+};
 use geo_rect::{ClassId, LayerId, List, NetId, NoMemory, Node, Rect, Text};
 use std::alloc::Global;
 use std::process::Abort;
@@ -46,7 +48,7 @@ fn small_board(alloc: Global, blocks: &[Block], pins: &[Pin]) -> Result<BoardPar
 }
 
 fn build(rt: &impl Abort, alloc: Global, parts: BoardParts) -> Result<Board, NoMemory> {
-    assert!(rt; parts.is_board());
+    assert!(rt; is_board(&parts));
     Board::build(alloc, parts)
 }
 

@@ -6,10 +6,10 @@ use Rattle.std.proofs.lemmas.Option.{slice_get_read}
 use Rattle.geo_rect.specs.declared.ids.NetId.{NetId}
 use Rattle.geo_rect.specs.declared.ids.Spot.{Spot}
 use Rattle.board_model.specs.declared.made.Conn.{Conn}
-use Rattle.board_model.specs.declared.parts.BoardParts.{BoardParts}
+use Rattle.board_parts.specs.declared.parts.BoardParts.{BoardParts}
 use Rattle.board_model.specs.Boxes.{source_boxes, target_boxes}
 use Rattle.board_model.specs.Made.{conns_of, with_conn, without_conns}
-use Rattle.board_model.specs.Rules.{IsBoard}
+use Rattle.board_parts.specs.Rules.{IsBoard}
 use Rattle.board_model.specs.Shapes.{conn_shapes, state_shapes}
 use Rattle.plane_set.specs.Standing.{PlaneTable, StandsFor}
 use Rattle.plane_set.proofs.Standing.{stands_for_members}

@@ -12,11 +12,11 @@ use Rattle.geo_rect.specs.declared.ids.Node.{Node}
 use Rattle.geo_rect.specs.declared.ids.Spot.{Spot}
 use Rattle.geo_rect.specs.Distance.{IsAway}
 use Rattle.board_model.specs.declared.made.Conn.{Conn}
-use Rattle.board_model.specs.declared.parts.BoardParts.{BoardParts}
-use Rattle.board_model.specs.declared.parts.Pin.{Pin}
+use Rattle.board_parts.specs.declared.parts.BoardParts.{BoardParts}
+use Rattle.board_parts.specs.declared.parts.Pin.{Pin}
 use Rattle.board_model.specs.Boxes.{spot_on, pin_boxes, boxes_of_some, source_boxes, target_boxes}
-use Rattle.board_model.specs.Lookup.{layer_at, layers_from, pins_of}
-use Rattle.board_model.specs.Rules.{IsBoard, IsPin}
+use Rattle.board_parts.specs.Lookup.{layer_at, layers_from, pins_of}
+use Rattle.board_parts.specs.Rules.{IsBoard, IsPin}
 use Rattle.board_model.specs.Shapes.{place_of, state_shapes}
 use Rattle.board_model.specs.WellFormed.{IsWellFormed}
 use Rattle.plane_set.specs.Standing.{PlaneTable, StandsFor}

@@ -7,9 +7,9 @@ use Rattle.geo_rect.specs.declared.ids.LayerId.{LayerId}
 use Rattle.geo_rect.specs.declared.shapes.Point.{Point}
 use Rattle.geo_rect.specs.declared.shapes.Rect.{Rect}
 use Rattle.board_model.specs.declared.made.Conn.{Conn}
-use Rattle.board_model.specs.declared.parts.BoardParts.{BoardParts}
+use Rattle.board_parts.specs.declared.parts.BoardParts.{BoardParts}
 use Rattle.board_model.specs.Labels.{wire_plane, label_among}
-use Rattle.board_model.specs.Rules.{IsBoard}
+use Rattle.board_parts.specs.Rules.{IsBoard}
 use Rattle.board_model.specs.Shapes.{state_shapes}
 use Rattle.plane_core.specs.declared.strips.Strip.{Strip}
 use Rattle.plane_core.specs.Labels.{label_of}

@@ -11,13 +11,13 @@ use Rattle.geo_rect.specs.Plane.{lone}
 use Rattle.board_model.specs.declared.made.Conn.{Conn}
 use Rattle.board_model.specs.declared.made.Leg.{Leg}
 use Rattle.board_model.specs.declared.made.Leg.TheVariants.{Wire, Via}
-use Rattle.board_model.specs.declared.parts.BoardParts.{BoardParts}
-use Rattle.board_model.specs.declared.parts.Pin.{Pin}
+use Rattle.board_parts.specs.declared.parts.BoardParts.{BoardParts}
+use Rattle.board_parts.specs.declared.parts.Pin.{Pin}
 use Rattle.board_model.specs.declared.shapes.Shape.{Shape}
 use Rattle.board_model.specs.Boxes.{spot_on, pin_boxes, leg_boxes, legs_boxes, corner_boxes, conn_boxes, boxes_of_some, source_boxes, target_boxes}
-use Rattle.board_model.specs.Lookup.{kind_of, layer_at, layers_from, pins_of}
+use Rattle.board_parts.specs.Lookup.{kind_of, layer_at, layers_from, pins_of}
 use Rattle.board_model.specs.Made.{conns_of}
-use Rattle.board_model.specs.Rules.{IsBoard, IsOnBoard, IsPin}
+use Rattle.board_parts.specs.Rules.{IsBoard, IsOnBoard, IsPin}
 use Rattle.board_model.specs.Segments.{segment}
 use Rattle.board_model.specs.Shapes.{place_of, end_of}
 use Rattle.board_model.specs.WellFormed.{IsStep, AreSteps, IsWellFormed}

@@ -6,12 +6,12 @@ use Rattle.std.proofs.lemmas.Bool.{false≢true}
 use Rattle.std.proofs.lemmas.List.Elements.{All-replicate, All-nil, All-cons, All-append, All-weaker, All-get_or, All-set, Contains-append_left, Contains-append_right, Contains-append_cases}
 use Rattle.geo_rect.specs.declared.ids.NetId.{NetId}
 use Rattle.board_model.specs.declared.made.Conn.{Conn}
-use Rattle.board_model.specs.declared.parts.BoardParts.{BoardParts}
+use Rattle.board_parts.specs.declared.parts.BoardParts.{BoardParts}
 use Rattle.board_model.specs.declared.shapes.Shape.{Shape}
 use Rattle.board_model.specs.Known.{IsKnown}
-use Rattle.board_model.specs.Lookup.{pins_of}
+use Rattle.board_parts.specs.Lookup.{pins_of}
 use Rattle.board_model.specs.Made.{conns_of, with_conn, without_conns}
-use Rattle.board_model.specs.Rules.{IsBoard}
+use Rattle.board_parts.specs.Rules.{IsBoard}
 use Rattle.board_model.specs.Shapes.{conn_shapes, board_shapes, state_shapes}
 use Rattle.board_model.specs.WellFormed.{IsWellFormed}
 use Rattle.board_model.proofs.MadeShapes.{conn_known}

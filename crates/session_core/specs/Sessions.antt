@@ -1,9 +1,9 @@
 -- What a session holds.
 use Rattle.std.specs.Prelude.{◌≡◌, List, All, Option, Some, None}
 use Rattle.board_model.specs.declared.made.Conn.{Conn}
-use Rattle.board_model.specs.declared.parts.BoardParts.{BoardParts}
+use Rattle.board_parts.specs.declared.parts.BoardParts.{BoardParts}
 use Rattle.board_model.specs.Boxes.{conn_boxes}
-use Rattle.board_model.specs.Rules.{IsBoard}
+use Rattle.board_parts.specs.Rules.{IsBoard}
 use Rattle.board_model.specs.Shapes.{state_shapes}
 use Rattle.plane_set.specs.Standing.{PlaneTable, StandsFor}
 use Rattle.route_law.specs.Kept.{IsState}

@@ -1,8 +1,8 @@
 //! What each command does, and its reply.
 
 ghost use Rattle.std.specs.Prelude.{◌<◌, length, IfOk};
-ghost use Rattle.board_model.specs.Commands.{IsCommandOf};
-ghost use Rattle.board_model.specs.declared.commands.Command.TheVariants as command;
+ghost use Rattle.board_parts.specs.Commands.{IsCommandOf};
+ghost use Rattle.board_parts.specs.declared.commands.Command.TheVariants as command;
 ghost use Rattle.route_law.specs.Steps.{IsStep};
 ghost use Rattle.session_core.specs.Sessions.{IsSession};
 

@@ -1,7 +1,7 @@
 //! The search for a net's next connection.
 
 ghost use Rattle.std.specs.Prelude.{◌≡◌, ◌<◌, length, All, IfOk};
-ghost use Rattle.board_model.specs.Lookup.{pins_of};
+ghost use Rattle.board_parts.specs.Lookup.{pins_of};
 ghost use Rattle.plane_set.specs.Standing.{HasPlanes};
 ghost use Rattle.route_law.specs.Routing.{next_number};
 ghost use Rattle.strip_moves.specs.Boxes.{IsBoardBox};

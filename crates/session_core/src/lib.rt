@@ -14,4 +14,5 @@ mod sessions;
 mod turns;
 
 pub use adopts::Adopted;
+pub use looks::items_of;
 pub use sessions::Session;

@@ -1,5 +1,6 @@
 ghost use Rattle.std.specs.Prelude.{◌≡◌, ◌<◌, length, IfOk};
-ghost use Rattle.board_model.specs.Commands.{IsCommandOf};
+ghost use Rattle.board_parts.specs.Commands.{IsCommandOf};
+ghost use Rattle.route_law.specs.Kept.{IsState};
 ghost use Rattle.route_law.specs.Regular.{IsRegular};
 ghost use Rattle.route_law.specs.Steps.{IsStep, nothing_made};
 ghost use Rattle.session_core.specs.Adopting.{AreAdopted};
@@ -55,9 +56,10 @@ impl<P: Plane> Session<P> {
         &self.board
     }
 
-    /// The connections that are made.
+    /// The connections that are made. They are a state of the board, which keeps its rules.
     pub fn made(&self) -> &Made
-        ensures { result.now.lists ≡ self.now.lists }
+        ensures lists { result.now.lists ≡ self.now.lists }
+        ensures state { IsState self.now.parts self.now.lists }
     {
         &self.made
     }

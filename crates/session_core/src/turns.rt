@@ -1,7 +1,7 @@
 //! One turn of routing: a net's next connection is made, or has no route.
 
 ghost use Rattle.std.specs.Prelude.{◌≡◌, ◌<◌, length, IfOk};
-ghost use Rattle.board_model.specs.Lookup.{pins_of};
+ghost use Rattle.board_parts.specs.Lookup.{pins_of};
 ghost use Rattle.board_model.specs.Made.{with_conn};
 ghost use Rattle.route_law.specs.Routing.{next_number};
 ghost use Rattle.session_core.specs.Adopting.{IsNextWalk};

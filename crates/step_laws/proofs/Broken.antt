@@ -3,13 +3,13 @@ use Rattle.std.proofs.Common.{◌≡◌, ◌⊎◌, inl, inr, refl, sym, subst, 
 use Rattle.std.proofs.lemmas.List.Elements.{All-contains}
 use Rattle.geo_rect.specs.declared.ids.LayerId.{LayerId}
 use Rattle.board_model.specs.declared.made.Conn.{Conn}
-use Rattle.board_model.specs.declared.parts.BoardParts.{BoardParts}
+use Rattle.board_parts.specs.declared.parts.BoardParts.{BoardParts}
 use Rattle.board_model.specs.declared.shapes.Owned.{Owned}
 use Rattle.board_model.specs.declared.shapes.Shape.{Shape}
 use Rattle.board_model.specs.declared.shapes.Violation.{Violation}
 use Rattle.board_model.specs.declared.shapes.Violation.TheVariants.{Close, Outline}
 use Rattle.board_model.specs.Known.{IsKnown}
-use Rattle.board_model.specs.Rules.{IsBoard}
+use Rattle.board_parts.specs.Rules.{IsBoard}
 use Rattle.board_model.specs.Shapes.{made_shapes, state_shapes}
 use Rattle.board_model.specs.Violations.{violations_of}
 use Rattle.board_model.proofs.MadeShapes.{state_known}

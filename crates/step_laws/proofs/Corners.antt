@@ -9,9 +9,9 @@ use Rattle.geo_rect.specs.Plane.{HasPoint, lone}
 use Rattle.board_model.specs.declared.made.Conn.{Conn}
 use Rattle.board_model.specs.declared.made.Leg.{Leg}
 use Rattle.board_model.specs.declared.made.Leg.TheVariants.{Wire, Via}
-use Rattle.board_model.specs.declared.parts.BoardParts.{BoardParts}
+use Rattle.board_parts.specs.declared.parts.BoardParts.{BoardParts}
 use Rattle.board_model.specs.declared.shapes.Shape.{Shape}
-use Rattle.board_model.specs.Rules.{IsBoard, IsOnBoard}
+use Rattle.board_parts.specs.Rules.{IsBoard, IsOnBoard}
 use Rattle.board_model.specs.Shapes.{place_of, end_of}
 use Rattle.board_model.specs.WellFormed.{IsStep, AreSteps, IsWellFormed}
 use Rattle.route_law.specs.Boards.{IsGroundOf}

@@ -6,16 +6,16 @@ use Rattle.std.proofs.lemmas.List.Elements.{All-nil, All-cons, All-head, All-tai
 use Rattle.geo_rect.specs.declared.ids.NetId.{NetId}
 use Rattle.geo_rect.specs.declared.ids.Node.{Node}
 use Rattle.geo_rect.specs.declared.ids.Spot.{Spot}
-use Rattle.board_model.specs.declared.commands.Command.{Command}
+use Rattle.board_parts.specs.declared.commands.Command.{Command}
 use Rattle.board_model.specs.declared.made.Conn.{Conn}
 use Rattle.board_model.specs.declared.made.Leg.{Leg}
 use Rattle.board_model.specs.declared.made.Leg.TheVariants.{Wire, Via}
-use Rattle.board_model.specs.declared.parts.BoardParts.{BoardParts}
+use Rattle.board_parts.specs.declared.parts.BoardParts.{BoardParts}
 use Rattle.board_model.specs.declared.shapes.Shape.{Shape}
-use Rattle.board_model.specs.Commands.{IsCommandOf}
+use Rattle.board_parts.specs.Commands.{IsCommandOf}
 use Rattle.board_model.specs.Known.{IsKnown}
 use Rattle.board_model.specs.Made.{conns_of, with_conn, without_conns}
-use Rattle.board_model.specs.Rules.{IsBoard}
+use Rattle.board_parts.specs.Rules.{IsBoard}
 use Rattle.board_model.specs.Shapes.{end_of, leg_shapes, legs_shapes, conn_shapes, made_shapes, board_shapes, state_shapes}
 use Rattle.board_model.specs.WellFormed.{IsWellFormed}
 use Rattle.board_model.proofs.MadeShapes.{conn_known, state_known}

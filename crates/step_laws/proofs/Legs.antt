@@ -12,16 +12,16 @@ use Rattle.geo_rect.specs.declared.shapes.Point.{Point}
 use Rattle.geo_rect.specs.Plane.{HasPoint, IsTooClose, square}
 use Rattle.board_model.specs.declared.made.Leg.{Leg}
 use Rattle.board_model.specs.declared.made.Leg.TheVariants.{Wire, Via}
-use Rattle.board_model.specs.declared.parts.BoardParts.{BoardParts}
-use Rattle.board_model.specs.declared.parts.Keepout.{Keepout}
-use Rattle.board_model.specs.declared.parts.ViaKind.{ViaKind}
+use Rattle.board_parts.specs.declared.parts.BoardParts.{BoardParts}
+use Rattle.board_parts.specs.declared.parts.Keepout.{Keepout}
+use Rattle.board_parts.specs.declared.parts.ViaKind.{ViaKind}
 use Rattle.board_model.specs.declared.shapes.Shape.{Shape}
 use Rattle.board_model.specs.Labels.{wire_plane, via_plane, IsInSpan, IsLeftTo, Shuts}
-use Rattle.board_model.specs.Lookup.{rule_of, pad_on, kind_of, class_of, layer_at, layers_from}
-use Rattle.board_model.specs.Rules.{IsBoard, IsRule}
+use Rattle.board_parts.specs.Lookup.{rule_of, pad_on, kind_of, class_of, layer_at, layers_from}
+use Rattle.board_parts.specs.Rules.{IsBoard, IsRule}
 use Rattle.board_model.specs.Segments.{segment}
 use Rattle.board_model.specs.Shapes.{place_of, end_of, net_shape, via_shape, leg_shapes, legs_shapes}
-use Rattle.board_model.specs.Spacing.{gap_to}
+use Rattle.board_parts.specs.Gaps.{gap_to}
 use Rattle.board_model.specs.WellFormed.{IsInLine, across, up, IsWire, IsStep, AreSteps}
 use Rattle.board_model.proofs.LabelHits.{wire_hits, via_hits, wire_shuts, via_shuts}
 use Rattle.board_model.proofs.LabelLaws.{admits_is_left}

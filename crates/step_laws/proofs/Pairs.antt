@@ -2,11 +2,11 @@
 use Rattle.std.proofs.Common.{ℤ, ◌≡◌, ◌≢◌, sym, subst}
 use Rattle.geo_rect.specs.declared.ids.LayerId.{LayerId}
 use Rattle.geo_rect.specs.Plane.{IsTooClose}
-use Rattle.board_model.specs.declared.parts.BoardParts.{BoardParts}
+use Rattle.board_parts.specs.declared.parts.BoardParts.{BoardParts}
 use Rattle.board_model.specs.declared.shapes.Shape.{Shape}
 use Rattle.board_model.specs.Known.{IsKnown}
-use Rattle.board_model.specs.Rules.{IsBoard}
-use Rattle.board_model.specs.Spacing.{gap_between}
+use Rattle.board_parts.specs.Rules.{IsBoard}
+use Rattle.board_parts.specs.Gaps.{gap_between}
 use Rattle.board_model.proofs.OwnersGap.{gap_between-sym}
 use Rattle.geo_rect.proofs.Closeness.{too_close-sym}
 

@@ -14,21 +14,22 @@ use Rattle.geo_rect.specs.declared.ids.Spot.{Spot}
 use Rattle.geo_rect.specs.declared.shapes.Point.{Point}
 use Rattle.geo_rect.specs.declared.shapes.Rect.{Rect}
 use Rattle.geo_rect.specs.Plane.{columns, rows, HasPoint, LiesIn, lone}
-use Rattle.board_model.specs.declared.commands.Command.{Command}
+use Rattle.board_parts.specs.declared.commands.Command.{Command}
 use Rattle.board_model.specs.declared.made.Conn.{Conn}
-use Rattle.board_model.specs.declared.parts.Block.{Block}
-use Rattle.board_model.specs.declared.parts.BoardParts.{BoardParts}
-use Rattle.board_model.specs.declared.parts.Pin.{Pin}
+use Rattle.board_parts.specs.declared.parts.Block.{Block}
+use Rattle.board_parts.specs.declared.parts.BoardParts.{BoardParts}
+use Rattle.board_parts.specs.declared.parts.Pin.{Pin}
 use Rattle.board_model.specs.declared.shapes.Owned.{Owned}
 use Rattle.board_model.specs.declared.shapes.Shape.{Shape}
 use Rattle.board_model.specs.declared.shapes.Violation.{Violation}
 use Rattle.board_model.specs.declared.shapes.Violation.TheVariants.{Close, Outline}
-use Rattle.board_model.specs.Commands.{IsCommandOf}
-use Rattle.board_model.specs.Known.{IsOwner, IsKnown}
+use Rattle.board_parts.specs.Commands.{IsCommandOf}
+use Rattle.board_parts.specs.Owners.{IsOwner}
+use Rattle.board_model.specs.Known.{IsKnown}
 use Rattle.board_model.specs.Labels.{PlaneRule, wire_plane, label_among, IsTakenBy}
-use Rattle.board_model.specs.Lookup.{layers_from}
+use Rattle.board_parts.specs.Lookup.{layers_from}
 use Rattle.board_model.specs.Made.{conns_of, with_conn}
-use Rattle.board_model.specs.Rules.{IsBoard, IsOnBoard, IsBlock, IsPin}
+use Rattle.board_parts.specs.Rules.{IsBoard, IsOnBoard, IsBlock, IsPin}
 use Rattle.board_model.specs.Shapes.{block_shape, net_shape, pin_shapes, board_shapes, made_shapes, state_shapes}
 use Rattle.board_model.specs.Violations.{violations_of}
 use Rattle.board_model.proofs.LabelLaws.{says_what}

@@ -8,7 +8,7 @@ use Rattle.geo_rect.specs.declared.shapes.Point.{Point}
 use Rattle.geo_rect.specs.declared.shapes.Rect.{Rect}
 use Rattle.geo_rect.specs.Axis.{HasNumber, IsNear, around}
 use Rattle.geo_rect.specs.Plane.{HasPoint, IsTooClose, square}
-use Rattle.board_model.specs.Rules.{IsOnBoard}
+use Rattle.board_parts.specs.Rules.{IsOnBoard}
 use Rattle.board_model.specs.Segments.{stretch, segment}
 
 -- a number from a to b whose reach is near

@@ -4,7 +4,7 @@ ghost use Rattle.std.specs.Prelude.{◌<◌, ◌↔◌, ◌⊎◌, List, length,
 ghost use Rattle.std.specs.List.{flat_map};
 ghost use Rattle.geo_rect.specs.declared.ids.NetId.{NetId};
 ghost use Rattle.board_model.specs.declared.made.Conn.{Conn};
-ghost use Rattle.board_model.specs.declared.parts.BoardParts.{BoardParts};
+ghost use Rattle.board_parts.specs.declared.parts.BoardParts.{BoardParts};
 ghost use Rattle.board_model.specs.declared.shapes.Shape.{Shape};
 ghost use Rattle.board_model.specs.Made.{conns_of, with_conn, without_conns};
 ghost use Rattle.board_model.specs.Shapes.{conn_shapes, state_shapes};

@@ -1,10 +1,10 @@
 //! That each reply can be written and read back. The function does nothing: its contract is the law.
 ghost use Rattle.std.specs.Prelude.{List};
-ghost use Rattle.board_model.specs.declared.commands.Command.{Command};
+ghost use Rattle.board_parts.specs.declared.commands.Command.{Command};
 ghost use Rattle.board_model.specs.declared.made.Conn.{Conn};
-ghost use Rattle.board_model.specs.declared.parts.BoardParts.{BoardParts};
-ghost use Rattle.board_model.specs.Commands.{IsCommandOf};
-ghost use Rattle.board_model.specs.Rules.{IsBoard};
+ghost use Rattle.board_parts.specs.declared.parts.BoardParts.{BoardParts};
+ghost use Rattle.board_parts.specs.Commands.{IsCommandOf};
+ghost use Rattle.board_parts.specs.Rules.{IsBoard};
 ghost use Rattle.route_law.specs.declared.replies.Reply.{Reply};
 ghost use Rattle.route_law.specs.Kept.{IsState};
 ghost use Rattle.route_law.specs.Regular.{IsRegular};

@@ -1,12 +1,12 @@
 //! That each step keeps the rules of the board. The function does nothing: its contract is the law.
 ghost use Rattle.std.specs.Prelude.{◌<◌, List, length, All};
 ghost use Rattle.geo_rect.specs.declared.ids.NetId.{NetId};
-ghost use Rattle.board_model.specs.declared.commands.Command.{Command};
+ghost use Rattle.board_parts.specs.declared.commands.Command.{Command};
 ghost use Rattle.board_model.specs.declared.made.Conn.{Conn};
-ghost use Rattle.board_model.specs.declared.parts.BoardParts.{BoardParts};
-ghost use Rattle.board_model.specs.Commands.{IsCommandOf};
+ghost use Rattle.board_parts.specs.declared.parts.BoardParts.{BoardParts};
+ghost use Rattle.board_parts.specs.Commands.{IsCommandOf};
 ghost use Rattle.board_model.specs.Made.{conns_of, with_conn, without_conns};
-ghost use Rattle.board_model.specs.Rules.{IsBoard};
+ghost use Rattle.board_parts.specs.Rules.{IsBoard};
 ghost use Rattle.route_law.specs.declared.replies.Made1.{Made1};
 ghost use Rattle.route_law.specs.declared.replies.Reply.{Reply};
 ghost use Rattle.route_law.specs.Kept.{IsState};

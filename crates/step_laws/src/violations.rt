@@ -1,10 +1,10 @@
 //! That nothing which is made breaks a rule. The function does nothing: its contract is the law.
 ghost use Rattle.std.specs.Prelude.{List, Contains};
 ghost use Rattle.board_model.specs.declared.made.Conn.{Conn};
-ghost use Rattle.board_model.specs.declared.parts.BoardParts.{BoardParts};
+ghost use Rattle.board_parts.specs.declared.parts.BoardParts.{BoardParts};
 ghost use Rattle.board_model.specs.declared.shapes.Shape.{Shape};
 ghost use Rattle.board_model.specs.declared.shapes.Violation.{Violation};
-ghost use Rattle.board_model.specs.Rules.{IsBoard};
+ghost use Rattle.board_parts.specs.Rules.{IsBoard};
 ghost use Rattle.board_model.specs.Shapes.{made_shapes, state_shapes};
 ghost use Rattle.board_model.specs.Violations.{violations_of};
 ghost use Rattle.route_law.specs.Kept.{IsState};

@@ -8,8 +8,8 @@ use Rattle.geo_rect.specs.Distance.{IsDistance}
 use Rattle.geo_rect.specs.Line.{between}
 use Rattle.geo_rect.specs.Plane.{columns, rows, HasPoint, LiesIn}
 use Rattle.geo_rect.proofs.Parts.{low_in, lies_in_from}
-use Rattle.board_model.specs.declared.parts.BoardParts.{BoardParts}
-use Rattle.board_model.specs.Rules.{IsBoard, IsOnBoard}
+use Rattle.board_parts.specs.declared.parts.BoardParts.{BoardParts}
+use Rattle.board_parts.specs.Rules.{IsBoard, IsOnBoard}
 use Rattle.route_law.specs.declared.certs.Entry.{Entry}
 use Rattle.route_law.specs.declared.certs.Origin.{Origin}
 use Rattle.strip_moves.specs.Departures.{IsOnLargestBoard, IsOpen}

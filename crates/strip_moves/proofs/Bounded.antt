@@ -9,8 +9,8 @@ use Rattle.geo_rect.specs.declared.shapes.Point.{Point}
 use Rattle.geo_rect.specs.declared.shapes.Rect.{Rect}
 use Rattle.geo_rect.specs.Plane.{HasPoint, IsBounded}
 use Rattle.geo_rect.proofs.Parts.{lies_in_from, bounded_within}
-use Rattle.board_model.specs.declared.parts.BoardParts.{BoardParts}
-use Rattle.board_model.specs.Rules.{IsBoard}
+use Rattle.board_parts.specs.declared.parts.BoardParts.{BoardParts}
+use Rattle.board_parts.specs.Rules.{IsBoard}
 use Rattle.plane_set.specs.Standing.{PlaneTable, HasPlanes}
 use Rattle.route_law.specs.declared.certs.Entry.{Entry}
 use Rattle.route_law.specs.Ground.{IsGround, IsWireStrip}

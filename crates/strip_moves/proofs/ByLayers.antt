@@ -2,7 +2,7 @@
 use Rattle.std.proofs.Common.{ℕ, ◌≡◌, ◌+◌, ◌<◌, ◌⊎◌, inl, inr, ap, List, arith}
 use Rattle.geo_rect.specs.declared.ids.KindId.{KindId}
 use Rattle.geo_rect.specs.declared.ids.LayerId.{LayerId}
-use Rattle.board_model.specs.Lookup.{layer_at}
+use Rattle.board_parts.specs.Lookup.{layer_at}
 use Rattle.route_law.specs.declared.certs.Entry.{Entry}
 use Rattle.route_law.specs.declared.certs.Origin.{Origin}
 use Rattle.route_law.specs.Ground.{Ground}

@@ -12,9 +12,9 @@ use Rattle.geo_rect.specs.Axis.{IsSmall}
 use Rattle.geo_rect.specs.Distance.{IsDistance}
 use Rattle.geo_rect.specs.Line.{between}
 use Rattle.geo_rect.specs.Plane.{columns, rows, IsBounded}
-use Rattle.board_model.specs.declared.parts.BoardParts.{BoardParts}
-use Rattle.board_model.specs.Lookup.{kind_of}
-use Rattle.board_model.specs.Rules.{IsBoard, IsKind}
+use Rattle.board_parts.specs.declared.parts.BoardParts.{BoardParts}
+use Rattle.board_parts.specs.Lookup.{kind_of}
+use Rattle.board_parts.specs.Rules.{IsBoard, IsKind}
 use Rattle.plane_set.specs.Standing.{PlaneTable, HasPlanes}
 use Rattle.route_law.specs.declared.certs.Entry.{Entry}
 use Rattle.route_law.specs.declared.certs.Origin.{Origin}

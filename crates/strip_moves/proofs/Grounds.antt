@@ -15,11 +15,11 @@ use Rattle.geo_rect.specs.declared.shapes.Rect.{Rect}
 use Rattle.geo_rect.specs.Plane.{columns, rows, HasPoint, LiesIn}
 use Rattle.geo_rect.proofs.Parts.{lies_in_from}
 use Rattle.geo_rect.proofs.Same.{same_interval, same_rect}
-use Rattle.board_model.specs.declared.parts.BoardParts.{BoardParts}
+use Rattle.board_parts.specs.declared.parts.BoardParts.{BoardParts}
 use Rattle.board_model.specs.declared.shapes.Shape.{Shape}
 use Rattle.board_model.specs.Labels.{Admits, IsPassable, IsViaPassable, label_among}
-use Rattle.board_model.specs.Lookup.{class_of}
-use Rattle.board_model.specs.Rules.{IsBoard, IsSide}
+use Rattle.board_parts.specs.Lookup.{class_of}
+use Rattle.board_parts.specs.Rules.{IsBoard, IsSide}
 use Rattle.board_model.specs.Shapes.{place_of}
 use Rattle.plane_core.specs.declared.strips.Strip.{Strip}
 use Rattle.plane_core.specs.Labels.{label_of, IsPlane}

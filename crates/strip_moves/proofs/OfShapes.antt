@@ -5,9 +5,9 @@ use Rattle.geo_rect.specs.declared.ids.NetId.{NetId}
 use Rattle.geo_rect.specs.declared.shapes.Point.{Point}
 use Rattle.geo_rect.specs.Axis.{HasNumber}
 use Rattle.geo_rect.specs.Plane.{HasPoint, lone}
-use Rattle.board_model.specs.declared.parts.BoardParts.{BoardParts}
+use Rattle.board_parts.specs.declared.parts.BoardParts.{BoardParts}
 use Rattle.board_model.specs.declared.shapes.Shape.{Shape}
-use Rattle.board_model.specs.Rules.{IsBoard, IsSide, IsOnBoard}
+use Rattle.board_parts.specs.Rules.{IsBoard, IsSide, IsOnBoard}
 use Rattle.plane_set.specs.declared.families.Family.TheVariants.{Wires, Vias}
 use Rattle.plane_set.specs.Standing.{PlaneTable, StandsFor}
 use Rattle.route_law.specs.Boards.{IsGroundOf}

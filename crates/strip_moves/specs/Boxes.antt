@@ -2,8 +2,8 @@
 use Rattle.std.specs.Prelude.{◌<◌, length}
 use Rattle.geo_rect.specs.declared.ids.Spot.{Spot}
 use Rattle.geo_rect.specs.Plane.{IsBounded}
-use Rattle.board_model.specs.declared.parts.BoardParts.{BoardParts}
-use Rattle.board_model.specs.Rules.{IsOnBoard}
+use Rattle.board_parts.specs.declared.parts.BoardParts.{BoardParts}
+use Rattle.board_parts.specs.Rules.{IsOnBoard}
 
 -- the box is on a layer of the board, and each point of it is one of the board
 pub record IsBoardBox (b : BoardParts) (box : Spot) : Type 0 where

@@ -1,8 +1,8 @@
 -- What is known of an entry that a net leaves.
 use Rattle.std.specs.Prelude.{◌+◌, ◌^◌, ◌<◌, ◌≤◌}
 use Rattle.geo_rect.specs.declared.shapes.Rect.{Rect}
-use Rattle.board_model.specs.declared.limits.TheConstants.{MAX_SIDE, MAX_CHARGE}
-use Rattle.board_model.specs.Rules.{IsOnBoard}
+use Rattle.board_parts.specs.declared.limits.TheConstants.{MAX_SIDE, MAX_CHARGE}
+use Rattle.board_parts.specs.Rules.{IsOnBoard}
 use Rattle.strip_moves.specs.declared.departures.Departure.{Departure}
 
 -- the points of the rectangle are some of a board of the greatest width and height

@@ -9,8 +9,8 @@ use Rattle.geo_rect.specs.declared.ids.Node.{Node}
 use Rattle.geo_rect.specs.declared.shapes.Interval.{Interval}
 use Rattle.geo_rect.specs.declared.shapes.Rect.{Rect}
 use Rattle.geo_rect.specs.Plane.{rect_of, HasPoint}
-use Rattle.board_model.specs.declared.parts.BoardParts.{BoardParts}
-use Rattle.board_model.specs.Lookup.{class_of, kind_of}
+use Rattle.board_parts.specs.declared.parts.BoardParts.{BoardParts}
+use Rattle.board_parts.specs.Lookup.{class_of, kind_of}
 use Rattle.board_model.specs.Shapes.{place_of}
 use Rattle.plane_core.specs.declared.strips.Strip.{Strip}
 use Rattle.plane_set.specs.Drawings.{Drawing}

@@ -2,7 +2,7 @@
 use Rattle.std.specs.Prelude.{◌≡◌, ◌≢◌}
 use Rattle.geo_rect.specs.declared.ids.KindId.{KindId}
 use Rattle.geo_rect.specs.declared.ids.LayerId.{LayerId}
-use Rattle.board_model.specs.declared.parts.ViaKind.{ViaKind}
+use Rattle.board_parts.specs.declared.parts.ViaKind.{ViaKind}
 use Rattle.board_model.specs.Labels.{IsInSpan}
 use Rattle.route_law.specs.Ground.{Ground}
 use Rattle.route_law.specs.Moves.{Arrival, IsViaMove}

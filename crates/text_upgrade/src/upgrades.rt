@@ -1,7 +1,7 @@
 ghost use Rattle.std.specs.Prelude.{◌≡◌, ◌≤◌, All, IfOk, Ok, length};
-ghost use Rattle.board_model.specs.Commands.{IsCommandOf};
-ghost use Rattle.board_model.specs.Rules.{IsBoard};
-ghost use Rattle.board_model.specs.declared.limits.TheConstants.{MAX_COMMANDS};
+ghost use Rattle.board_parts.specs.Commands.{IsCommandOf};
+ghost use Rattle.board_parts.specs.Rules.{IsBoard};
+ghost use Rattle.board_parts.specs.declared.limits.TheConstants.{MAX_COMMANDS};
 ghost use Rattle.board_reader.specs.Contract.{told_by};
 ghost use Rattle.board_reader.specs.Reading.{reading, Told};
 ghost use Rattle.text_upgrade.specs.Upgraded.{upgraded};

@@ -1,5 +1,5 @@
 ghost use Rattle.std.specs.Prelude.{◌<◌, ◌≡◌, length, slice_get, All, Some, IsTrue};
-ghost use Rattle.board_model.specs.Rules.{IsOnBoard};
+ghost use Rattle.board_parts.specs.Rules.{IsOnBoard};
 ghost use Rattle.board_model.specs.Shapes.{place_of};
 ghost use Rattle.board_model.specs.WellFormed.{IsCoordinate, IsPlace};
 ghost use Rattle.path_trace.specs.Strips.{IsInStripOf};
@@ -12,7 +12,7 @@ ghost use Rattle.tile_search.specs.Answers.{HasRightPath, HasPathEnd};
 ghost use Rattle.walk_check.specs.Corners.{HasPlaces};
 
 use crate::{Found, search};
-use board_model::{Block, Board, BoardParts, Conn, Pin, Rule, ViaKind};
+use board_model::{Block, Board, BoardParts, Conn, Pin, Rule, ViaKind, is_board};
 use cert_check::{Verdict, check};
 use flat_plane::FlatPlane;
 use geo_rect::{ClassId, LayerId, List, NetId, NoMemory, Node, Rect, Spot, Text};
@@ -80,7 +80,7 @@ fn board_with(
 ) -> Result<Board, NoMemory> {
     let mut parts = BoardParts::new(alloc, "wall", 40, 20)?;
     fill(alloc, &mut parts, walls, from, to)?;
-    assert!(rt; parts.is_board());
+    assert!(rt; is_board(&parts));
     Board::build(alloc, parts)
 }
 
@@ -367,7 +367,7 @@ fn a_via_joins_the_first_layer_and_the_last(rt: HostRuntime) -> Result<(), Fail>
         area: Rect::new(17, 10, 17, 10),
     };
     fill_three(rt.alloc(), &mut parts, Rect::new(5, 8, 14, 12), from, to)?;
-    assert!(rt; parts.is_board());
+    assert!(rt; is_board(&parts));
     let board = Board::build(rt.alloc(), parts)?;
     let found = search_on::<FlatPlane>(&rt, rt.alloc(), &board, from, to)?;
     let end = Node {

@@ -9,8 +9,8 @@ use Rattle.geo_rect.specs.declared.shapes.Point.{Point}
 use Rattle.geo_rect.specs.Axis.{HasNumber}
 use Rattle.board_model.specs.declared.made.Leg.{Leg}
 use Rattle.board_model.specs.declared.made.Leg.TheVariants.{Wire, Via}
-use Rattle.board_model.specs.declared.parts.BoardParts.{BoardParts}
-use Rattle.board_model.specs.Rules.{IsBoard, IsSide}
+use Rattle.board_parts.specs.declared.parts.BoardParts.{BoardParts}
+use Rattle.board_parts.specs.Rules.{IsBoard, IsSide}
 use Rattle.board_model.specs.Shapes.{place_of, end_of}
 use Rattle.board_model.specs.WellFormed.{IsCoordinate, IsCorner, IsInLine, across, up, IsWire, HasForm, IsStep, AreSteps}
 use Rattle.plane_set.specs.Standing.{PlaneTable}

@@ -4,7 +4,7 @@ ghost use Rattle.std.specs.Prelude.{ℕ, ◌↔◌, List};
 ghost use Rattle.geo_rect.specs.declared.ids.NetId.{NetId};
 ghost use Rattle.geo_rect.specs.declared.ids.Spot.{Spot};
 ghost use Rattle.board_model.specs.declared.made.Conn.{Conn};
-ghost use Rattle.board_model.specs.declared.parts.BoardParts.{BoardParts};
+ghost use Rattle.board_parts.specs.declared.parts.BoardParts.{BoardParts};
 ghost use Rattle.plane_set.specs.Standing.{PlaneTable};
 ghost use Rattle.walk_check.specs.Corners.{HasPlaces, IsGoodCorner};
 ghost use Rattle.route_law.specs.Joins.{IsConnection};

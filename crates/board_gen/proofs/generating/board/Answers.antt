@@ -1,5 +1,5 @@
 use Rattle.std.proofs.Common.{sym, subst}
-use Rattle.board_model.specs.Rules.{IsBoard}
+use Rattle.board_parts.specs.Rules.{IsBoard}
 use Rattle.board_gen.proofs.GoodBoard.{generated-is-board}
 use Rattle.board_gen.proofs.generating.board.Goals as goal
 

@@ -1,6 +1,6 @@
 use Rattle.std.proofs.Common.{◌≡◌, ◌<◌, ◌+◌, ◌-◌, ◌++◌, ◌∙◌, map, ap, arith}
 use Rattle.std.specs.List.{range_with_len}
-use Rattle.board_model.specs.Lookup.{layer_at}
+use Rattle.board_parts.specs.Lookup.{layer_at}
 use Rattle.board_model.specs.Boxes.{spot_on}
 use Rattle.board_model.proofs.Layers.{added_layer}
 use Rattle.board_model.proofs.boxes.push_layers.Goals as goal

@@ -1,8 +1,8 @@
 use Rattle.std.proofs.Common.{◌==◌, ◌++◌, ◌∙◌, Bool, List, filter, take, ap, sym}
 use Rattle.std.specs.List.{flat_map}
 use Rattle.board_model.specs.Boxes.{pin_boxes}
-use Rattle.board_model.specs.declared.parts.Pin.{Pin}
-use Rattle.board_model.proofs.Filtered.{take-filter}
+use Rattle.board_parts.specs.declared.parts.Pin.{Pin}
+use Rattle.board_parts.proofs.Filtered.{take-filter}
 use Rattle.board_model.proofs.boxes.push_pins.Goals as goal
 
 pub returns-then-before-count : goal.returns-then-before-count

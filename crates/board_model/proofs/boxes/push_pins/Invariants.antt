@@ -1,7 +1,7 @@
 use Rattle.std.proofs.Common.{◌≡◌, ◌++◌, ◌==◌, ◌≤◌, length, filter, take}
 use Rattle.std.specs.List.{flat_map}
 use Rattle.board_model.specs.Boxes.{pin_boxes}
-use Rattle.board_model.specs.declared.parts.Pin.{Pin}
+use Rattle.board_parts.specs.declared.parts.Pin.{Pin}
 use Rattle.board_model.proofs.boxes.push_pins.Given as goal
 
 -- so many pins of the net stand before, no more than are wanted, and the boxes of all of them are added

@@ -1,11 +1,11 @@
 use Rattle.std.proofs.Common.{◌≡◌, ◌≤◌, ◌+◌, ◌-◌, ◌++◌, ◌∷◌, [], ◌∙◌, map, ap, arith}
 use Rattle.std.specs.List.{range_with_len}
 use Rattle.geo_rect.specs.Plane.{square}
-use Rattle.board_model.specs.declared.parts.ViaKind.{ViaKind}
-use Rattle.board_model.specs.Lookup.{layer_at, kind_of, pad_on}
+use Rattle.board_parts.specs.declared.parts.ViaKind.{ViaKind}
+use Rattle.board_parts.specs.Lookup.{layer_at, kind_of, pad_on}
 use Rattle.board_model.specs.Shapes.{place_of, net_shape, via_shape}
 use Rattle.board_model.proofs.Layers.{added_layer}
-use Rattle.board_model.proofs.Tables.{read_measure}
+use Rattle.board_parts.proofs.Tables.{read_measure}
 use Rattle.board_model.proofs.conn_shapes.push_pads.Goals as goal
 
 pub loop-layer-preserved : goal.loop-layer-preserved

@@ -1,6 +1,6 @@
 use Rattle.std.proofs.Common.{◌≡◌, ◌++◌, ◌-◌, ◌<◌, map}
 use Rattle.std.specs.List.{range_with_len}
-use Rattle.board_model.specs.Lookup.{layer_at, kind_of}
+use Rattle.board_parts.specs.Lookup.{layer_at, kind_of}
 use Rattle.board_model.specs.Shapes.{place_of, via_shape}
 use Rattle.board_model.proofs.conn_shapes.push_pads.Given as goal
 

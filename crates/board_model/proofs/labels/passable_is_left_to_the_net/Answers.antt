@@ -1,4 +1,4 @@
-use Rattle.board_model.specs.Lookup.{class_of}
+use Rattle.board_parts.specs.Lookup.{class_of}
 use Rattle.board_model.specs.Shapes.{place_of}
 use Rattle.board_model.specs.Labels.{wire_plane, via_plane}
 use Rattle.board_model.proofs.LabelLaws.{admits_is_left}

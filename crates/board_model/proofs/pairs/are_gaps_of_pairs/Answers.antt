@@ -1,7 +1,7 @@
 use Rattle.std.proofs.Common.{◌≡◌, ◌+◌, ◌<◌, length, sym, ◌∙◌, arith}
 use Rattle.std.proofs.lemmas.Bool.{false≢true}
 use Rattle.geo_rect.specs.declared.ids.ClassId.{ClassId}
-use Rattle.board_model.specs.Lookup.{gap_of}
+use Rattle.board_parts.specs.Lookup.{gap_of}
 use Rattle.board_model.proofs.Counting.{below_more}
 use Rattle.board_model.proofs.pairs.are_gaps_of_pairs.Goals as goal
 

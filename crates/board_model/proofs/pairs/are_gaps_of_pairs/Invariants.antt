@@ -1,7 +1,7 @@
 use Rattle.std.proofs.Common.{◌≡◌, ◌<◌, length}
 use Rattle.geo_rect.specs.declared.ids.ClassId.{ClassId}
 use Rattle.geo_rect.specs.declared.ids.LayerId.{LayerId}
-use Rattle.board_model.specs.Lookup.{gap_of}
+use Rattle.board_parts.specs.Lookup.{gap_of}
 use Rattle.board_model.proofs.pairs.are_gaps_of_pairs.Given as goal
 
 -- it is so on the layers so far

@@ -2,9 +2,9 @@ use Rattle.std.proofs.Common.{◌≡◌, ◌+◌, ◌*◌, ◌<◌, length, ap, 
 use Rattle.std.proofs.lemmas.Bool.{false≢true}
 use Rattle.geo_rect.specs.declared.ids.ClassId.{ClassId}
 use Rattle.geo_rect.specs.declared.ids.KindId.{KindId}
-use Rattle.board_model.specs.Lookup.{pad_of, inner_of}
+use Rattle.board_parts.specs.Lookup.{pad_of, inner_of}
 use Rattle.board_model.proofs.Counting.{below_more}
-use Rattle.board_model.proofs.Tables.{in_table, item, measure_at}
+use Rattle.board_parts.proofs.Tables.{in_table, item, measure_at}
 use Rattle.board_model.proofs.pairs.are_pads_alike.Goals as goal
 
 pub returns-then-as_slice-row : goal.returns-then-as_slice-row

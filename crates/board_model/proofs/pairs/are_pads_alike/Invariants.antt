@@ -1,6 +1,6 @@
 use Rattle.std.proofs.Common.{◌≡◌, ◌<◌}
 use Rattle.geo_rect.specs.declared.ids.ClassId.{ClassId}
-use Rattle.board_model.specs.Lookup.{pad_of, inner_of}
+use Rattle.board_parts.specs.Lookup.{pad_of, inner_of}
 use Rattle.board_model.proofs.pairs.are_pads_alike.Given as goal
 
 -- the pads of the classes so far are alike

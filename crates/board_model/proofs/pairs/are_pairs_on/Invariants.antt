@@ -1,6 +1,6 @@
 use Rattle.std.proofs.Common.{◌≡◌, ◌<◌, length}
 use Rattle.geo_rect.specs.declared.ids.ClassId.{ClassId}
-use Rattle.board_model.specs.Lookup.{gap_of}
+use Rattle.board_parts.specs.Lookup.{gap_of}
 use Rattle.board_model.proofs.pairs.are_pairs_on.Given as goal
 
 -- it is so for the first classes so far

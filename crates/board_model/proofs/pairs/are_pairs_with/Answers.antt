@@ -2,9 +2,9 @@ use Rattle.std.proofs.Common.{◌≡◌, ◌+◌, ◌<◌, ap, sym, ◌∙◌, a
 use Rattle.std.proofs.lemmas.Bool.{false≢true}
 use Rattle.geo_rect.specs.declared.ids.ClassId.{ClassId}
 use Rattle.geo_rect.specs.declared.ids.LayerId.{LayerId}
-use Rattle.board_model.specs.Lookup.{gap_of}
+use Rattle.board_parts.specs.Lookup.{gap_of}
 use Rattle.board_model.proofs.Counting.{below_more}
-use Rattle.board_model.proofs.Tables.{same_measure}
+use Rattle.board_parts.proofs.Tables.{same_measure}
 use Rattle.board_model.proofs.pairs.are_pairs_with.Goals as goal
 
 pub returns-then-gap_at : goal.returns-then-gap_at

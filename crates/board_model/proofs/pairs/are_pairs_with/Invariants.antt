@@ -1,6 +1,6 @@
 use Rattle.std.proofs.Common.{◌≡◌, ◌<◌}
 use Rattle.geo_rect.specs.declared.ids.ClassId.{ClassId}
-use Rattle.board_model.specs.Lookup.{gap_of}
+use Rattle.board_parts.specs.Lookup.{gap_of}
 use Rattle.board_model.proofs.pairs.are_pairs_with.Given as goal
 
 -- it is so for the second classes so far

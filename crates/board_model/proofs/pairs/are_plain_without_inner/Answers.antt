@@ -1,8 +1,8 @@
 use Rattle.std.proofs.Common.{◌≡◌, ◌+◌, ◌<◌, length, sym, ◌∙◌, arith}
 use Rattle.std.proofs.lemmas.Bool.{false≢true}
 use Rattle.geo_rect.specs.declared.ids.ClassId.{ClassId}
-use Rattle.board_model.specs.Lookup.{pad_of, inner_of}
-use Rattle.board_model.specs.Rules.{HasNoInnerLayer}
+use Rattle.board_parts.specs.Lookup.{pad_of, inner_of}
+use Rattle.board_parts.specs.Rules.{HasNoInnerLayer}
 use Rattle.board_model.proofs.Counting.{below_more}
 use Rattle.board_model.proofs.pairs.are_plain_without_inner.Goals as goal
 

@@ -1,8 +1,8 @@
 use Rattle.std.proofs.Common.{◌≡◌, ◌<◌, length}
 use Rattle.geo_rect.specs.declared.ids.ClassId.{ClassId}
 use Rattle.geo_rect.specs.declared.ids.KindId.{KindId}
-use Rattle.board_model.specs.Lookup.{pad_of, inner_of}
-use Rattle.board_model.specs.Rules.{HasNoInnerLayer}
+use Rattle.board_parts.specs.Lookup.{pad_of, inner_of}
+use Rattle.board_parts.specs.Rules.{HasNoInnerLayer}
 use Rattle.board_model.proofs.pairs.are_plain_without_inner.Given as goal
 
 -- it is so for the kinds so far

@@ -1,5 +1,5 @@
 use Rattle.std.proofs.Common.{◌≡◌, ◌+◌, ◌*◌, ◌<◌, length, ap, subst, sym}
-use Rattle.board_model.proofs.Tables.{in_table, measure_at, measure_at_is}
+use Rattle.board_parts.proofs.Tables.{in_table, measure_at, measure_at_is}
 use Rattle.board_model.proofs.pairs.gap_at.Goals as goal
 
 pub returns-clause-value : goal.returns-clause-value

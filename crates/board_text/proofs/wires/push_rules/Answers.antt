@@ -1,7 +1,7 @@
 use Rattle.std.proofs.Common.{◌+◌, ◌-◌, ◌++◌, ◌∙◌, ap}
 use Rattle.std.specs.List.{flat_map, range_with_len}
 use Rattle.board_text.specs.Spelled.{rule_lines}
-use Rattle.board_model.specs.Lookup.{layer_at}
+use Rattle.board_parts.specs.Lookup.{layer_at}
 use Rattle.board_reader.proofs.Ranges.{flat_map-next}
 use Rattle.board_text.proofs.wires.push_rules.Goals as goal
 

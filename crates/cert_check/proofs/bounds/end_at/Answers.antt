@@ -1,5 +1,5 @@
 use Rattle.std.proofs.Common.{◌+◌, ℕ, ap, subst, sym}
-use Rattle.board_model.specs.Lookup.{layer_at}
+use Rattle.board_parts.specs.Lookup.{layer_at}
 use Rattle.cert_check.specs.Bounds.{IsLeast, IsEndAt}
 use Rattle.cert_check.proofs.Leasts.{end_at_only}
 use Rattle.strip_moves.proofs.Bounded.{part_bounded}

@@ -1,6 +1,6 @@
 use Rattle.std.proofs.Common.{◌+◌, ◌≤◌, ap, subst, ℕ}
 use Rattle.geo_rect.proofs.Reaches.{reach_one}
-use Rattle.board_model.specs.Lookup.{layer_at}
+use Rattle.board_parts.specs.Lookup.{layer_at}
 use Rattle.cert_check.proofs.fronts.comes_before.Goals as goal
 
 pub returns : goal.returns

@@ -1,5 +1,5 @@
 use Rattle.std.proofs.Common.{ap}
-use Rattle.board_model.specs.Lookup.{layer_at}
+use Rattle.board_parts.specs.Lookup.{layer_at}
 use Rattle.route_law.specs.Moves.{Arrival, arrival_of}
 use Rattle.cert_check.proofs.Cases.{not_both}
 use Rattle.cert_check.proofs.Moved.{over_edge, edge_moved}

@@ -1,5 +1,5 @@
 use Rattle.std.proofs.Common.{subst, sym}
-use Rattle.board_model.specs.declared.parts.ViaKind.{ViaKind}
+use Rattle.board_parts.specs.declared.parts.ViaKind.{ViaKind}
 use Rattle.route_law.specs.Moves.{arrival_of}
 use Rattle.strip_moves.specs.Grounds.{ground_of}
 use Rattle.strip_moves.specs.Spans.{IsOtherLayer}

@@ -1,8 +1,8 @@
 use Rattle.std.proofs.Common.{◌≡◌, ◌∙◌, sym, subst, refl, List, [], IsErrAnd, arith}
 use Rattle.std.proofs.lemmas.List.{take_all}
-use Rattle.board_model.specs.declared.commands.Command.{Command}
+use Rattle.board_parts.specs.declared.commands.Command.{Command}
 use Rattle.board_model.specs.declared.made.Conn.{Conn}
-use Rattle.board_model.specs.declared.parts.BoardParts.{BoardParts}
+use Rattle.board_parts.specs.declared.parts.BoardParts.{BoardParts}
 use Rattle.contour.specs.Endings.{EndsAnswers}
 use Rattle.contour.specs.Sessions.{IsUnderway}
 use Rattle.contour.proofs.Replied.{underway_none, underway_next, answers_all, answers_first, ends_all}

@@ -2,7 +2,7 @@ use Rattle.std.proofs.Common.{◌≡◌, List, OnOk, IfErr, sym, ◌∙◌, ap, 
 use Rattle.std.proofs.lemmas.Result.{IfOk-weaker, IfErr-weaker}
 use Rattle.io_edge.specs.Streams.{Appends}
 use Rattle.board_model.specs.declared.made.Conn.{Conn}
-use Rattle.board_model.specs.declared.parts.BoardParts.{BoardParts}
+use Rattle.board_parts.specs.declared.parts.BoardParts.{BoardParts}
 use Rattle.route_law.specs.declared.replies.Reply.{Reply}
 use Rattle.reply_text.specs.Texts.{reply_text}
 use Rattle.contour.specs.Endings.{EndsSending}

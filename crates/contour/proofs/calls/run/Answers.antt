@@ -1,6 +1,6 @@
 use Rattle.std.proofs.Common.{List, OnOk, IfErr, subst}
 use Rattle.std.proofs.lemmas.Result.{IfErr-weaker, on_ok_weaker}
-use Rattle.board_model.specs.declared.commands.Command.{Command}
+use Rattle.board_parts.specs.declared.commands.Command.{Command}
 use Rattle.board_reader.specs.Contract.{told_by}
 use Rattle.contour.specs.Answers.{AnswersAll}
 use Rattle.contour.specs.Endings.{EndsAnswers}

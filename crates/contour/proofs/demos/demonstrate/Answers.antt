@@ -1,7 +1,7 @@
 use Rattle.std.proofs.Common.{◌∙◌, OnOk, IfErr, sym, subst}
 use Rattle.std.proofs.lemmas.Result.{IfErr-weaker, on_ok_weaker}
 use Rattle.board_gen.specs.Generated.{asked}
-use Rattle.board_model.specs.declared.parts.BoardParts.{BoardParts}
+use Rattle.board_parts.specs.declared.parts.BoardParts.{BoardParts}
 use Rattle.contour.specs.Demos.{EndsFinish, EndsSummary, Finishes}
 use Rattle.contour.proofs.Sent.{if_err_and}
 use Rattle.contour.proofs.SummedUp.{answers_at, ends_first, ends_summary, none_written, sums_up}

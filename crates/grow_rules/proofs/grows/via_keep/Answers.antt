@@ -1,6 +1,6 @@
 use Rattle.std.proofs.Common.{pos, to_z, of_z, w32, arith}
 use Rattle.std.proofs.lemmas.Int.{ints}
-use Rattle.board_model.specs.Lookup.{pad_on}
+use Rattle.board_parts.specs.Lookup.{pad_on}
 use Rattle.grow_rules.proofs.Grown.{near_board, same_points}
 use Rattle.grow_rules.proofs.grows.via_keep.Goals as goal
 

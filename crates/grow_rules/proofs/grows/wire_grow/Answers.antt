@@ -1,6 +1,6 @@
 use Rattle.std.proofs.Common.{arith, ap, to_z, of_z, w32}
 use Rattle.std.proofs.lemmas.Int.{ints}
-use Rattle.board_model.specs.declared.parts.Rule.{Rule}
+use Rattle.board_parts.specs.declared.parts.Rule.{Rule}
 use Rattle.grow_rules.proofs.Grown.{wire_points}
 use Rattle.grow_rules.proofs.grows.wire_grow.Goals as goal
 

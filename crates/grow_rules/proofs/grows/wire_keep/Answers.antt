@@ -1,7 +1,7 @@
 use Rattle.std.proofs.Common.{ap, pos, to_z, of_z, w32, arith}
 use Rattle.std.proofs.lemmas.Int.{ints}
-use Rattle.board_model.specs.declared.parts.Rule.{Rule}
-use Rattle.board_model.specs.Lookup.{rule_of}
+use Rattle.board_parts.specs.declared.parts.Rule.{Rule}
+use Rattle.board_parts.specs.Lookup.{rule_of}
 use Rattle.grow_rules.proofs.Grown.{near_board, same_points}
 use Rattle.grow_rules.proofs.grows.wire_keep.Goals as goal
 

@@ -1,6 +1,6 @@
 use Rattle.std.proofs.Common.{◌+◌, List, length, subst, sym, arith}
 use Rattle.std.proofs.lemmas.Result.{on_ok_weaker}
-use Rattle.board_model.specs.declared.parts.Pin.{Pin}
+use Rattle.board_parts.specs.declared.parts.Pin.{Pin}
 use Rattle.net_trace.specs.Listing.{IsSoBelow, IsListed, net_number}
 use Rattle.net_trace.specs.Report.{IsListOf, HasPiece, IsOpen, IsEarlierNet, Differ}
 use Rattle.net_trace.proofs.Grouped.{opens_skip, opens_next}

@@ -1,7 +1,7 @@
 use Rattle.std.proofs.Common.{ℕ, ◌+◌, ◌<◌, List, length, IfSome, Option, Some, None}
 use Rattle.geo_rect.specs.declared.ids.Node.{Node}
 use Rattle.geo_rect.specs.declared.ids.Spot.{Spot}
-use Rattle.board_model.specs.declared.parts.BoardParts.{BoardParts}
+use Rattle.board_parts.specs.declared.parts.BoardParts.{BoardParts}
 use Rattle.route_law.specs.Ground.{Ground}
 use Rattle.path_trace.specs.Traces.{IsSound, IsTrace, IsTracedTo}
 use Rattle.path_trace.proofs.traces.go_back.Given as goal

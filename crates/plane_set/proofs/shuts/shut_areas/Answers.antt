@@ -2,7 +2,7 @@ use Rattle.std.proofs.Common.{◌≡◌, ◌∙◌, List, [], take, sym, subst, 
 use Rattle.std.proofs.lemmas.Int.{ints}
 use Rattle.std.proofs.lemmas.List.{take_all}
 use Rattle.geo_rect.specs.declared.shapes.Rect.{Rect}
-use Rattle.board_model.specs.declared.parts.Keepout.{Keepout}
+use Rattle.board_parts.specs.declared.parts.Keepout.{Keepout}
 use Rattle.plane_set.specs.Families.{rule_in}
 use Rattle.plane_set.proofs.Shutting.{AreShutSoFar, shut_edges, shut_here, all_shut}
 use Rattle.plane_set.proofs.shuts.shut_areas.Goals as goal

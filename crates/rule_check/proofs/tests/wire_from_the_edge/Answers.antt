@@ -4,7 +4,7 @@ use Rattle.geo_rect.specs.declared.ids.Node.{Node}
 use Rattle.board_model.specs.declared.made.Conn.{Conn}
 use Rattle.board_model.specs.declared.made.Leg.{Leg}
 use Rattle.board_model.specs.declared.made.Leg.TheVariants.{Wire}
-use Rattle.board_model.specs.declared.parts.BoardParts.{BoardParts}
+use Rattle.board_parts.specs.declared.parts.BoardParts.{BoardParts}
 use Rattle.board_model.specs.WellFormed.{IsCorner, IsInLine, IsStep, AreSteps, IsWellFormed, AreWellFormed}
 use Rattle.board_model.proofs.WellFormed.{with_conn_well_formed}
 use Rattle.rule_check.proofs.tests.wire_from_the_edge.Goals as goal

@@ -1,7 +1,7 @@
 use Rattle.std.proofs.Common.{refl, sym, ◌∙◌, ap, subst}
 use Rattle.std.proofs.lemmas.Bool.{false≢true}
 use Rattle.std.proofs.lemmas.Result.{on_ok_weaker}
-use Rattle.board_model.specs.declared.parts.ViaKind.{ViaKind}
+use Rattle.board_parts.specs.declared.parts.ViaKind.{ViaKind}
 use Rattle.route_law.specs.declared.certs.Origin.TheVariants.{Via}
 use Rattle.route_law.specs.Ground.{Ground}
 use Rattle.route_law.specs.Moves.{arrival_of}

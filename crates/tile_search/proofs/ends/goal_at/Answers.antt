@@ -1,6 +1,6 @@
 use Rattle.std.proofs.Common.{ap}
 use Rattle.geo_rect.proofs.Parts.{lies_in_from, bounded_within}
-use Rattle.board_model.specs.Lookup.{layer_at}
+use Rattle.board_parts.specs.Lookup.{layer_at}
 use Rattle.tile_search.proofs.GoalsAt.{other_layer, no_common, cheapest_at}
 use Rattle.tile_search.proofs.ends.goal_at.Goals as goal
 

@@ -2,7 +2,7 @@ use Rattle.std.proofs.Common.{◌≡◌, ◌∙◌, ap, sym, subst, arith, ◌++
 use Rattle.std.specs.List.{range_with_len}
 use Rattle.std.proofs.lemmas.Int.{ints}
 use mir.Val.{to_z, of_z}
-use Rattle.board_model.specs.Rules.{IsMeasure}
+use Rattle.board_parts.specs.Rules.{IsMeasure}
 use Rattle.board_reader.specs.Gaps.{gap_between}
 use Rattle.board_reader.proofs.PairGaps.{gap-measure}
 use Rattle.board_reader.proofs.Ranges.{map-next}

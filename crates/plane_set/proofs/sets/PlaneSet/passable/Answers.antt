@@ -1,7 +1,7 @@
 use Rattle.std.proofs.Common.{◌≡◌, ◌∙◌, sym, ap, IsTrue}
 use Rattle.geo_rect.specs.declared.ids.ClassId.{ClassId}
 use Rattle.board_model.specs.Labels.{wire_plane, label_among}
-use Rattle.board_model.specs.Lookup.{class_of}
+use Rattle.board_parts.specs.Lookup.{class_of}
 use Rattle.board_model.specs.Shapes.{place_of}
 use Rattle.plane_set.specs.Drawings.{drawing_by}
 use Rattle.plane_set.proofs.Admitting.{place_inside, admits_same}

@@ -1,6 +1,6 @@
 use Rattle.std.proofs.Common.{◌≡◌, sym, ap, subst}
-use Rattle.board_model.specs.declared.parts.BoardParts.{BoardParts}
-use Rattle.board_model.specs.Commands.{IsCommandOf}
+use Rattle.board_parts.specs.declared.parts.BoardParts.{BoardParts}
+use Rattle.board_parts.specs.Commands.{IsCommandOf}
 use Rattle.route_law.specs.Regular.{IsRegular}
 use Rattle.step_laws.proofs.Regular.{step_regular}
 use Rattle.session_core.specs.Sessions.{Sitting}

@@ -1,0 +1,3 @@
+pub mod Filtered
+pub mod NameTables
+pub mod Tables

@@ -1,0 +1,5 @@
+pub mod Commands
+pub mod Gaps
+pub mod Lookup
+pub mod Owners
+pub mod Rules
