@@ -1,8 +1,17 @@
+pub mod Apart
+pub mod Attached
+pub mod Complete
 pub mod Floods
 pub mod Grouped
+pub mod Holding
 pub mod Joining
 pub mod KnownNets
 pub mod Listing
+pub mod Members
+pub mod Naming
+pub mod Once
+pub mod PieceShapes
 pub mod Reports
 pub mod Sharing
 pub mod Shorted
+pub mod Tied

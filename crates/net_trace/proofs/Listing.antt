@@ -93,14 +93,15 @@ Contains-from_list_any xs q h =
     let e : q ≡ a.1 = grind (arith, nat_tests, a.4) in
     subst (Contains xs) (sym e) (a.0, a.2, a.3)
 
-fewer : (P : ℕ → Type 0) (xs ys : List ℕ) → IsListOf Differ P xs → IsListOf Differ P ys → length xs ≤ length ys
-fewer P xs ys h k =
+-- what is so is in a list that is no shorter
+pub no_more_than : (P : ℕ → Type 0) (xs ys : List ℕ) → IsListOf Differ P xs → ((q : ℕ) → P q → Contains ys q) → length xs ≤ length ys
+no_more_than P xs ys h all =
     length-le_from_is_member nat_eq_equiv xs ys (IsDistinct-from_AllPairs Decides-eqb xs h.ordered)
-    (λ q s. list_any-from_Contains nat_eq_equiv q ys (k.all q (h.each q (Contains-from_list_any xs q s))))
+    (λ q s. list_any-from_Contains nat_eq_equiv q ys (all q (h.each q (Contains-from_list_any xs q s))))
 
 -- there is one number of what is so
 pub count_one : (P : ℕ → Type 0) (m n : ℕ) → IsCount P m → IsCount P n → m ≡ n
 count_one P m n h k =
-    let a = fewer P h.numbers k.numbers h.lists k.lists in
-    let b = fewer P k.numbers h.numbers k.lists h.lists in
+    let a = no_more_than P h.numbers k.numbers h.lists k.lists.all in
+    let b = no_more_than P k.numbers h.numbers k.lists h.lists.all in
     omega (arith, h.many, k.many)

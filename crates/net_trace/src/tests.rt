@@ -1,6 +1,6 @@
 use crate::copper::Piece;
 use crate::flood::groups;
-use crate::traced::{Traced, report};
+use crate::printing::trace_text;
 use board_model::{Board, BoardParts, Made, Pin, Rule, is_board};
 use geo_rect::{ClassId, LayerId, List, NetId, NoMemory, Rect, Spot, Text};
 use std::alloc::Global;
@@ -41,44 +41,14 @@ fn board_of(alloc: Global, pins: &[Pin]) -> Result<Option<Board>, NoMemory> {
     Ok(None)
 }
 
-/// The report of a board with these pins on which nothing is made.
-fn report_of_pins(alloc: Global, pins: &[Pin]) -> Result<Option<Traced>, NoMemory> {
+/// Whether the report of a board with these pins, on which nothing is made, is written so.
+fn reads(alloc: Global, pins: &[Pin], wanted: &str) -> Result<bool, NoMemory> {
     match board_of(alloc, pins)? {
         Some(board) => {
             let made = Made::none(alloc, &board)?;
-            Ok(Some(report(alloc, &board, &made)?))
+            let text = trace_text(alloc, &board, &made)?;
+            Ok(text.as_slice() == wanted.as_bytes())
         }
-        None => Ok(None),
-    }
-}
-
-/// The report as a text, in which pieces and nets are numbers from 0.
-fn text_of(alloc: Global, traced: &Traced) -> Result<Text, NoMemory> {
-    let pieces = traced.pieces;
-    let count = traced.groups.len();
-    let mut text = format!(in alloc; "trace {pieces} groups {count}")?;
-    for group in traced.groups.as_slice() {
-        let first = group.first;
-        let count = group.count;
-        text.push_str(format!(in alloc; ", group {first} {count}")?.as_str())?;
-    }
-    for open in traced.opens.as_slice() {
-        let net = open.net.0;
-        let groups = open.groups;
-        text.push_str(format!(in alloc; ", open {net} {groups}")?.as_str())?;
-    }
-    for short in traced.shorts.as_slice() {
-        let a = short.a.0;
-        let b = short.b.0;
-        text.push_str(format!(in alloc; ", short {a} {b}")?.as_str())?;
-    }
-    Ok(Text { text })
-}
-
-/// Whether the report of a board with these pins reads so.
-fn reads(alloc: Global, pins: &[Pin], wanted: &str) -> Result<bool, NoMemory> {
-    match report_of_pins(alloc, pins)? {
-        Some(traced) => Ok(text_of(alloc, &traced)?.as_str() == wanted),
         None => Ok(false),
     }
 }
@@ -87,10 +57,10 @@ fn reads(alloc: Global, pins: &[Pin], wanted: &str) -> Result<bool, NoMemory> {
 fn reports_of_pins(rt: HostRuntime) -> Result<(), Fail> {
     let left = pin(A, Rect::new(4, 9, 6, 11));
     let right = pin(A, Rect::new(34, 9, 36, 11));
-    let apart = "trace 2 groups 2, group 0 1, group 1 1, open 0 2";
+    let apart = "trace 2 groups 2\ngroup 1 1\ngroup 2 1\nopen a 2\n";
     assert!(rt; reads(rt.alloc(), &[left, right], apart)?, "two pins apart");
     let corner = pin(A, Rect::new(6, 11, 9, 13));
-    let joined = "trace 2 groups 1, group 0 2";
+    let joined = "trace 2 groups 1\ngroup 1 2\n";
     assert!(rt;
         reads(rt.alloc(), &[left, corner], joined)?,
         "two pins with a common point"
@@ -98,7 +68,7 @@ fn reports_of_pins(rt: HostRuntime) -> Result<(), Fail> {
     let wide = pin(A, Rect::new(19, 9, 20, 9));
     let over = pin(B, Rect::new(20, 9, 20, 9));
     let far = pin(B, Rect::new(30, 9, 30, 9));
-    let shorted = "trace 3 groups 2, group 0 2, group 2 1, open 1 2, short 0 1";
+    let shorted = "trace 3 groups 2\ngroup 1 2\ngroup 3 1\nopen b 2\nshort a b\n";
     assert!(rt;
         reads(rt.alloc(), &[wide, over, far], shorted)?,
         "two nets in one group"

@@ -2,8 +2,9 @@
 
 ghost use Rattle.std.specs.Prelude.{◌≡◌, ◌≤◌, length, IfOk};
 ghost use Rattle.board_model.specs.WellFormed.{AreWellFormed};
-ghost use Rattle.net_trace.specs.Report.{IsReport, IsReportBy};
 ghost use Rattle.net_trace.specs.Listing.{IsListed, AreWithin};
+ghost use Rattle.net_trace.specs.Named.{NamesWhatIsThere};
+ghost use Rattle.net_trace.specs.Report.{IsReport, IsReportBy};
 
 use crate::copper::{Piece, pieces};
 use crate::flood::groups;
@@ -57,7 +58,8 @@ pub struct Traced {
 pub fn report(alloc: Global, board: &Board, made: &Made) -> Result<Traced, NoMemory>
     requires nets { length made.now.lists ≡ length board.now.parts.net_names }
     requires well_formed { AreWellFormed board.now.parts made.now.lists }
-    ensures { IfOk result (λ traced. IsReport board.now.parts made.now.lists traced) }
+    ensures told { IfOk result (λ traced. IsReport board.now.parts made.now.lists traced) }
+    ensures named { IfOk result (λ traced. NamesWhatIsThere board.now.parts traced) }
 {
     let pieces = pieces(alloc, board, made)?;
     let numbers = groups(alloc, pieces.as_slice())?;
