@@ -1,0 +1,10 @@
+pub mod Cutting
+pub mod Floods
+pub mod Fronts
+pub mod Marked
+pub mod Parts
+pub mod Pouring
+pub mod Reached
+pub mod Seeding
+pub mod Sites
+pub mod Ways
