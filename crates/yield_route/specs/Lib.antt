@@ -1,0 +1,4 @@
+pub mod Named
+pub mod Outcomes
+pub mod Texts
+pub mod Yielding
