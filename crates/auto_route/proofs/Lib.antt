@@ -1,0 +1,7 @@
+pub mod Ordering
+pub mod Playing
+pub mod Ranking
+pub mod Refusing
+pub mod Ripping
+pub mod Telling
+pub mod Touring
