@@ -3,10 +3,9 @@ use Rattle.std.proofs.Common.{◌≡◌, ℕ, Bool, List, Option, Some, None, in
 use Rattle.board_parts.specs.declared.commands.Command.{Command}
 use Rattle.board_parts.specs.declared.parts.BoardParts.{BoardParts}
 use Rattle.board_reader.specs.Reading.{Told}
+use Rattle.call_words.specs.Asked.{Run}
 use Rattle.contour.specs.declared.endings.Ending.{Ending}
 use Rattle.contour.specs.declared.endings.Ending.TheVariants.{BadWords, TooLong, Refused, Wrong, ReadFault, WriteFault, NoMemory}
-use Rattle.contour.specs.declared.requests.Request.{Request}
-use Rattle.contour.specs.declared.requests.Request.TheVariants.{Run}
 use Rattle.contour.specs.Answers.{AnswersAll}
 use Rattle.contour.specs.Causes.{AnswersInput, AnswersNoneOrFirst, CutsInputShort, EndsCall, IsBeforeReplies}
 use Rattle.contour.specs.Endings.{EndsAnswers}

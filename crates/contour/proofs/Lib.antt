@@ -1,6 +1,10 @@
 pub mod Checking
+pub mod Deciding
 pub mod Ended
+pub mod Following
 pub mod Replied
+pub mod Reporting
 pub mod Sent
 pub mod SummedUp
 pub mod Upgrading
+pub mod Writable

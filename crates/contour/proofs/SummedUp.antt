@@ -10,6 +10,7 @@ use Rattle.board_model.specs.declared.made.Conn.{Conn}
 use Rattle.board_parts.specs.declared.parts.BoardParts.{BoardParts}
 use Rattle.board_parts.specs.Rules.{IsBoard}
 use Rattle.board_reader.specs.declared.inputs.Input.{Input}
+use Rattle.call_words.specs.Numbers.{IsSize}
 use Rattle.board_reader.specs.declared.refusals.ReadInput.{ReadInput}
 use Rattle.board_reader.specs.declared.refusals.ReadInput.TheVariants as input
 use Rattle.board_reader.specs.Contract.{told_by, TellsReading}
@@ -25,7 +26,6 @@ use Rattle.contour.specs.declared.endings.Ending.TheVariants.{BadWords, TooLong,
 use Rattle.contour.specs.Answers.{AreReplies, AnswersFirst}
 use Rattle.contour.specs.Demos.{IsOfGenerated, SumsUp, CutsSummary, SumsUpInPart, EndsSummary, EndsDemo, Finishes, FinishesInPart, EndsFinish}
 use Rattle.contour.specs.Endings.{EndsAnswer, EndsAnswers, EndsSending, ending_of_input}
-use Rattle.contour.specs.Requests.{IsSize}
 use Rattle.contour.specs.Sessions.{IsUnderway, AnswersOne, AnswersWith}
 use Rattle.contour.proofs.Replied.{Appends-join, underway_none, underway_more, keeps_rules, answers_first, cut_short, ends_all, rose-from}
 

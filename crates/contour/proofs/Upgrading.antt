@@ -2,10 +2,10 @@
 use Rattle.std.proofs.Common.{◌≡◌, ℕ, List, Option}
 use Rattle.io_edge.specs.Streams.{Appends}
 use Rattle.board_reader.specs.Reading.{Told}
+use Rattle.call_words.specs.Asked.{Upgrade}
 use Rattle.text_upgrade.specs.Upgraded.{upgraded}
 use Rattle.contour.specs.declared.endings.Ending.{Ending}
 use Rattle.contour.specs.declared.endings.Ending.TheVariants.{BadWords, TooLong, Refused, Wrong, ReadFault, WriteFault, NoMemory}
-use Rattle.contour.specs.declared.requests.Request.TheVariants.{Upgrade}
 use Rattle.contour.specs.Causes.{EndsCall, IsBeforeReplies}
 use Rattle.contour.specs.Endings.{EndsSending}
 use Rattle.contour.specs.Inputs.{IfTold, IsAcceptedAs}

@@ -1,6 +1,6 @@
 -- An input with replies to be checked: a board text, a line `replies`, and the text of replies.
 use Rattle.std.specs.Prelude.{◌≡◌, ℕ, ◌+◌, ◌≤◌, ◌⊎◌, List, length, take, drop, Option, Some, None, Ok, Err}
-use Rattle.io_edge.specs.Streams.{Appends, AppendsPart}
+use Rattle.io_edge.specs.Streams.{Appends, AppendsPart, Rose}
 use Rattle.board_parts.specs.declared.parts.BoardParts.{BoardParts}
 use Rattle.board_reader.specs.Lines.{lines}
 use Rattle.board_reader.specs.Reading.{reading, Told}
@@ -14,7 +14,7 @@ use Rattle.route_law.specs.declared.replies.Reply.{Reply}
 use Rattle.route_law.specs.Steps.{IsRun, IsFirstWrong}
 use Rattle.contour.specs.declared.endings.Ending.{Ending}
 use Rattle.contour.specs.declared.endings.Ending.TheVariants.{BadWords, TooLong, Refused, Wrong, ReadFault, WriteFault, NoMemory}
-use Rattle.contour.specs.Inputs.{IsTooLong}
+use Rattle.contour.specs.Inputs.{IfTold, IsTooLong}
 use Rattle.contour.specs.Texts.{right_text}
 
 -- the bytes are cut at their line `replies`: before it stands a board text, and after it the text of these replies
@@ -86,35 +86,6 @@ pub record FindsWrong (n : ℕ) (bytes : List ℕ) : Type 0 where
   pub checked : IsCheckedAs told replies bytes
   pub wrong : IsFirstWrong told.parts told.commands replies n
 
--- the replies are those of a run, and this many
-pub record IsRightCount (bytes : List ℕ) (count : ℕ) : Type 0 where
-  pub replies : List Reply
-  pub right : IsRight bytes replies
-  pub counted : count ≡ length replies
-
--- what shows that the checking of an input ended so
-abbrev pub EndsChecking : List ℕ → Ending → Type 0
-EndsChecking bytes BadWords = ⊥
-EndsChecking bytes TooLong = ⊥
-EndsChecking bytes (Refused r) = IsUncheckedAs r bytes
-EndsChecking bytes (Wrong n) = FindsWrong n bytes
-EndsChecking bytes ReadFault = ⊥
-EndsChecking bytes WriteFault = ⊥
-EndsChecking bytes NoMemory = Unit {0}
-
--- the bytes are the text of replies, which are those of a run over a board text's commands, and this many
-pub record AreRight (told : Told) (bytes : List ℕ) (count : ℕ) : Type 0 where
-  pub replies : List Reply
-  pub read : IsReadingOf told.parts bytes replies
-  pub run : IsRun told.parts told.commands replies
-  pub counted : count ≡ length replies
-
--- the bytes are the text of replies, of which number n is the first that is wrong
-pub record AreWrong (told : Told) (bytes : List ℕ) (n : ℕ) : Type 0 where
-  pub replies : List Reply
-  pub read : IsReadingOf told.parts bytes replies
-  pub wrong : IsFirstWrong told.parts told.commands replies n
-
 -- the bytes are no text of replies, and the refusal names their first bad line after so many lines
 pub record AreUnread (b : BoardParts) (bytes : List ℕ) (before : ℕ) (refusal : Refusal) : Type 0 where
   pub number : ℕ
@@ -132,16 +103,6 @@ EndsReplies b bytes before ReadFault = ⊥
 EndsReplies b bytes before WriteFault = ⊥
 EndsReplies b bytes before NoMemory = Unit {0}
 
--- what shows that the checking of replies behind so many lines ended so
-abbrev pub EndsJudging : Told → List ℕ → ℕ → Ending → Type 0
-EndsJudging told bytes before BadWords = ⊥
-EndsJudging told bytes before TooLong = ⊥
-EndsJudging told bytes before (Refused r) = AreUnread told.parts bytes before r
-EndsJudging told bytes before (Wrong n) = AreWrong told bytes n
-EndsJudging told bytes before ReadFault = ⊥
-EndsJudging told bytes before WriteFault = ⊥
-EndsJudging told bytes before NoMemory = Unit {0}
-
 -- what shows that the checking of an input without a line `replies` ended so
 abbrev pub EndsUnsplit : List ℕ → Ending → Type 0
 EndsUnsplit bytes BadWords = ⊥
@@ -151,3 +112,53 @@ EndsUnsplit bytes (Wrong n) = ⊥
 EndsUnsplit bytes ReadFault = ⊥
 EndsUnsplit bytes WriteFault = ⊥
 EndsUnsplit bytes NoMemory = Unit {0}
+
+-- what shows that the reading of a board text and of the replies behind it ended so
+abbrev pub EndsParts : List ℕ → Ending → Type 0
+EndsParts bytes BadWords = ⊥
+EndsParts bytes TooLong = ⊥
+EndsParts bytes (Refused r) = IsUncheckedAs r bytes
+EndsParts bytes (Wrong n) = ⊥
+EndsParts bytes ReadFault = ⊥
+EndsParts bytes WriteFault = ⊥
+EndsParts bytes NoMemory = Unit {0}
+
+-- the same of a source, from what it had left and its counts of faults before and after
+abbrev pub EndsCheckedReading : Option (List ℕ) → ℕ → ℕ → Ending → Type 0
+EndsCheckedReading left before after BadWords = ⊥
+EndsCheckedReading left before after TooLong = IfTold left IsTooLong
+EndsCheckedReading left before after (Refused r) = IfTold left (IsUncheckedAs r)
+EndsCheckedReading left before after (Wrong n) = ⊥
+EndsCheckedReading left before after ReadFault = Rose before after
+EndsCheckedReading left before after WriteFault = ⊥
+EndsCheckedReading left before after NoMemory = Unit {0}
+
+-- what shows that the checking of replies ended so
+abbrev pub EndsJudging : Told → List Reply → Ending → Type 0
+EndsJudging told replies BadWords = ⊥
+EndsJudging told replies TooLong = ⊥
+EndsJudging told replies (Refused r) = ⊥
+EndsJudging told replies (Wrong n) = IsFirstWrong told.parts told.commands replies n
+EndsJudging told replies ReadFault = ⊥
+EndsJudging told replies WriteFault = ⊥
+EndsJudging told replies NoMemory = Unit {0}
+
+-- the replies are those of a run over the commands, and a sink took the line that says how many they are
+pub record TellsRight (told : Told) (replies : List Reply) (held holds : Option (List ℕ)) : Type 0 where
+  pub run : IsRun told.parts told.commands replies
+  pub written : Appends held holds (right_text (length replies))
+
+-- the same, but a sink took only a part of the line
+pub record TellsRightInPart (told : Told) (replies : List Reply) (held holds : Option (List ℕ)) : Type 0 where
+  pub run : IsRun told.parts told.commands replies
+  pub written : AppendsPart held holds (right_text (length replies))
+
+-- what shows that the checking of replies and the line about them ended so
+abbrev pub EndsTelling : Told → List Reply → Option (List ℕ) → Option (List ℕ) → ℕ → ℕ → Ending → Type 0
+EndsTelling told replies held holds before after BadWords = ⊥
+EndsTelling told replies held holds before after TooLong = ⊥
+EndsTelling told replies held holds before after (Refused r) = ⊥
+EndsTelling told replies held holds before after (Wrong n) = IsFirstWrong told.parts told.commands replies n
+EndsTelling told replies held holds before after ReadFault = ⊥
+EndsTelling told replies held holds before after WriteFault = Rose before after × TellsRightInPart told replies held holds
+EndsTelling told replies held holds before after NoMemory = holds ≡ held

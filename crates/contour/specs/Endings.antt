@@ -9,6 +9,8 @@ use Rattle.board_model.specs.declared.made.Conn.{Conn}
 use Rattle.board_reader.specs.declared.refusals.ReadInput.{ReadInput}
 use Rattle.board_reader.specs.declared.refusals.ReadInput.TheVariants as input
 use Rattle.board_reader.specs.Kinds.{number_of_kind}
+use Rattle.call_words.specs.declared.plans.PlanError.{PlanError}
+use Rattle.call_words.specs.declared.plans.PlanError.TheVariants as plan
 use Rattle.contour.specs.declared.endings.Ending.{Ending}
 use Rattle.contour.specs.declared.endings.Ending.TheVariants.{BadWords, TooLong, Refused, Wrong, ReadFault, WriteFault, NoMemory}
 use Rattle.contour.specs.declared.endings.Status.{Status}
@@ -34,6 +36,10 @@ ending_of_reading read.NoMemory = NoMemory
 abbrev pub ending_of_input : ReadInput → Ending
 ending_of_input (input.Refused r) = Refused r
 ending_of_input input.NoMemory = NoMemory
+
+abbrev pub ending_of_plan : PlanError → Ending
+ending_of_plan (plan.Refused r) = Refused r
+ending_of_plan plan.NoMemory = NoMemory
 
 -- the line that is written on an ending
 abbrev pub line_of : Ending → List ℕ

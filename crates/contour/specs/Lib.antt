@@ -4,7 +4,9 @@ pub mod Checked
 pub mod Demos
 pub mod Endings
 pub mod Inputs
+pub mod Reports
 pub mod Requests
+pub mod Sequels
 pub mod Sessions
 pub mod Texts
 pub mod Upgrades

@@ -6,7 +6,7 @@ ghost use Rattle.route_law.specs.Regular.{IsRegular};
 ghost use Rattle.reply_text.specs.Texts.{reply_text};
 ghost use Rattle.contour.specs.Answers.{AnswersAll};
 ghost use Rattle.contour.specs.Endings.{EndsAnswer, EndsAnswers, EndsSending};
-ghost use Rattle.contour.specs.Sessions.{AnswersOne, AnswersWith};
+ghost use Rattle.contour.specs.Sessions.{AnswersOne, AnswersWith, IsUnderway};
 
 use crate::begins::begin;
 use crate::endings::Ending;
@@ -17,6 +17,7 @@ use reply_text::print;
 use route_law::Reply;
 use session_core::Session;
 use std::alloc::Global;
+use strip_merge::StitchedPlane;
 
 /// Writes the text of a reply.
 fn send<K: Sink>(
@@ -92,7 +93,30 @@ fn answer<P: Plane, K: Sink>(
 }
 
 /// Makes the reply to each command, from a session on the board in which nothing is made, and writes
-/// it before it begins the next.
+/// it before it begins the next. The session is handed back.
+pub fn answer_all<K: Sink>(
+    alloc: Global,
+    board: Board,
+    commands: &[Command],
+    quiet: bool,
+    out: &mut K,
+) -> Result<Session<StitchedPlane>, Ending>
+    requires { All (IsCommandOf board.parts) commands.now }
+    ensures board { IfOk result (λ s. s.parts ≡ board.parts) }
+    ensures ok { IfOk result (λ s. IsUnderway board.parts quiet commands.now s.lists (K.written out.old) (K.written out.new)) }
+    ensures all { OnOk result (AnswersAll board.parts quiet commands.now (K.written out.old) (K.written out.new)) }
+    ensures err { IfErr result (EndsAnswers board.parts quiet commands.now (K.written out.old) (K.written out.new) (K.faults out.old) (K.faults out.new)) }
+    ensures never_falls { K.faults out.old ≤ K.faults out.new }
+    ensures setup { K.setup out.new ≡ K.setup out.old }
+{
+    let mut session = begin(alloc, board)?;
+    for command in commands {
+        session = answer(alloc, session, *command, quiet, out)?;
+    }
+    Ok(session)
+}
+
+/// Makes the reply to each command and writes it, as `answer_all` does.
 pub fn answer_each<K: Sink>(
     alloc: Global,
     board: Board,
@@ -106,9 +130,6 @@ pub fn answer_each<K: Sink>(
     ensures never_falls { K.faults out.old ≤ K.faults out.new }
     ensures setup { K.setup out.new ≡ K.setup out.old }
 {
-    let mut session = begin(alloc, board)?;
-    for command in commands {
-        session = answer(alloc, session, *command, quiet, out)?;
-    }
+    let _session = answer_all(alloc, board, commands, quiet, out)?;
     Ok(())
 }

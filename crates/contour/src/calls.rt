@@ -2,22 +2,26 @@ ghost use Rattle.std.specs.Prelude.{◌≡◌, ◌≤◌, ◌↔◌, ◌⊎◌, 
 ghost use Rattle.io_edge.specs.Streams.{Appends, Rose, IsToldAs};
 ghost use Rattle.board_gen.specs.Generated.{generated};
 ghost use Rattle.board_parts.specs.Commands.{IsCommandOf};
+ghost use Rattle.call_words.specs.Asked.{Asked, IsGood};
+ghost use Rattle.call_words.specs.Numbers.{IsSize};
+ghost use Rattle.call_words.specs.Requests.{IsNoRequest, asked_by};
 ghost use Rattle.contour.specs.Answers.{AnswersAll};
 ghost use Rattle.contour.specs.Causes.{EndsAttempt, EndsCall, HasBeenCut, HasDone, HasFoundWrong, HasRead, HasRunOut, IsBeforeReplies, IsUnwritten, MustAccept, MustRefuse, Refuses, TellsStatus};
 ghost use Rattle.contour.specs.Endings.{EndsAnswers, EndsSending};
-ghost use Rattle.contour.specs.Requests.{IsGood, IsNoRequest, IsRequestThat, IsSize, ReadsInput};
-ghost use Rattle.contour.specs.Texts.{right_text};
+ghost use Rattle.contour.specs.Requests.{IsRequestThat, ReadsInput};
 
 use crate::answers::answer_each;
-use crate::checks::check_text;
+use crate::checks::check;
 use crate::demos::demo;
 use crate::endings::{Ending, Status};
-use crate::inputs::{MAX_INPUT, read_text};
-use crate::lines::{right_line, tell};
-use crate::requests::{Request, request_of};
+use crate::inputs::read_text;
+use crate::lines::tell;
+use crate::reports::write_report;
+use crate::sequels::write_sequel;
 use crate::upgrades::upgrade_text;
 use board_gen::generate;
-use io_edge::{Sink, Source, read_all, write_all};
+use call_words::{Request, request_of};
+use io_edge::{Sink, Source, write_all};
 use std::alloc::Global;
 
 /// Reads a board text and writes the reply to each of its commands.
@@ -27,9 +31,9 @@ fn run<S: Source, K: Sink>(
     source: &mut S,
     out: &mut K,
 ) -> Result<(), Ending>
-    ensures done { OnOk result (HasDone (S.left source.old) (K.written out.old) (K.written out.new) (Request.Run quiet)) }
+    ensures done { OnOk result (HasDone (S.left source.old) (K.written out.old) (K.written out.new) (Asked.Run quiet)) }
     ensures end { OnOk result (IsToldAs (S.left source.new) []) }
-    ensures err { IfErr result (EndsCall (Request.Run quiet) (S.left source.old) (S.faults source.old) (S.faults source.new)
+    ensures err { IfErr result (EndsCall (Asked.Run quiet) (S.left source.old) (S.faults source.old) (S.faults source.new)
         (K.written out.old) (K.written out.new) (K.faults out.old) (K.faults out.new)) }
     ensures unwritten { IfErr result (λ e. IsBeforeReplies e → out.new ≡ out.old) }
     ensures source_setup { S.setup source.new ≡ S.setup source.old }
@@ -37,31 +41,6 @@ fn run<S: Source, K: Sink>(
 {
     let input = read_text(alloc, source)?;
     answer_each(alloc, input.board, input.commands.as_slice(), quiet, out)
-}
-
-/// Writes the line that says how many replies are right.
-fn tell_right<K: Sink>(alloc: Global, count: u64, out: &mut K) -> Result<(), Ending>
-    ensures ok { OnOk result (Appends (K.written out.old) (K.written out.new) (right_text count)) }
-    ensures err { IfErr result (EndsSending (right_text count) (K.written out.old) (K.written out.new) (K.faults out.old) (K.faults out.new)) }
-    ensures setup { K.setup out.new ≡ K.setup out.old }
-{
-    write_all(out, right_line(alloc, count).as_slice())?;
-    Ok(())
-}
-
-/// Reads a board text and the text of replies, and says how many are right.
-fn check<S: Source, K: Sink>(alloc: Global, source: &mut S, out: &mut K) -> Result<(), Ending>
-    ensures done { OnOk result (HasDone (S.left source.old) (K.written out.old) (K.written out.new) Request.Check) }
-    ensures end { OnOk result (IsToldAs (S.left source.new) []) }
-    ensures err { IfErr result (EndsCall Request.Check (S.left source.old) (S.faults source.old) (S.faults source.new)
-        (K.written out.old) (K.written out.new) (K.faults out.old) (K.faults out.new)) }
-    ensures unwritten { IfErr result (λ e. IsBeforeReplies e → out.new ≡ out.old) }
-    ensures source_setup { S.setup source.new ≡ S.setup source.old }
-    ensures sink_setup { K.setup out.new ≡ K.setup out.old }
-{
-    let bytes = read_all(alloc, source, MAX_INPUT)?;
-    let count = check_text(alloc, bytes.as_slice())?;
-    tell_right(alloc, count, out)
 }
 
 /// Writes a generated board text.
@@ -79,14 +58,14 @@ fn write_generated<K: Sink>(alloc: Global, n: u32, out: &mut K) -> Result<(), En
 /// Does what a request asks for.
 fn fulfil<S: Source, K: Sink>(
     alloc: Global,
-    request: Request,
+    request: Request<'_>,
     source: &mut S,
     out: &mut K,
 ) -> Result<(), Ending>
-    requires { IsGood request }
-    ensures done { OnOk result (HasDone (S.left source.old) (K.written out.old) (K.written out.new) request) }
-    ensures read { OnOk result (HasRead (S.left source.old) (S.left source.new) request) }
-    ensures err { IfErr result (EndsCall request (S.left source.old) (S.faults source.old) (S.faults source.new)
+    requires { IsGood (asked_by request) }
+    ensures done { OnOk result (HasDone (S.left source.old) (K.written out.old) (K.written out.new) (asked_by request.entry)) }
+    ensures read { OnOk result (HasRead (S.left source.old) (S.left source.new) (asked_by request.entry)) }
+    ensures err { IfErr result (EndsCall (asked_by request.entry) (S.left source.old) (S.faults source.old) (S.faults source.new)
         (K.written out.old) (K.written out.new) (K.faults out.old) (K.faults out.new)) }
     ensures unwritten { IfErr result (λ e. IsBeforeReplies e → out.new ≡ out.old) }
     ensures source_setup { S.setup source.new ≡ S.setup source.old }
@@ -98,6 +77,8 @@ fn fulfil<S: Source, K: Sink>(
         Request::Upgrade => upgrade_text(alloc, source, out),
         Request::Gen(n) => write_generated(alloc, n, out),
         Request::Demo(n) => demo(alloc, n, out),
+        Request::Reporting(report) => write_report(alloc, report, source, out),
+        Request::Following(sequel) => write_sequel(alloc, sequel, source, out),
     }
 }
 

@@ -1,82 +1,68 @@
 //! Replies that are handed in are checked against the commands of their board text.
-ghost use Rattle.std.specs.Prelude.{◌≤◌, ◌^◌, ◌<◌, All, length, IfOk, IfErr};
+ghost use Rattle.std.specs.Prelude.{◌≡◌, [], All, length, OnOk, IfErr};
+ghost use Rattle.io_edge.specs.Streams.{Appends, IsToldAs};
 ghost use Rattle.board_parts.specs.Commands.{IsCommandOf};
 ghost use Rattle.board_reader.specs.Contract.{told_by};
-ghost use Rattle.reply_reader.specs.Readings.{IsReadingOf};
-ghost use Rattle.contour.specs.Checked.{AreRight, EndsChecking, EndsJudging, EndsReplies, EndsUnsplit, IsRightCount};
+ghost use Rattle.call_words.specs.Asked.{Asked};
+ghost use Rattle.route_law.specs.Steps.{IsRun};
+ghost use Rattle.contour.specs.Causes.{EndsCall, HasDone, IsBeforeReplies};
+ghost use Rattle.contour.specs.Checked.{EndsJudging, EndsTelling, TellsRight};
+ghost use Rattle.contour.specs.Endings.{EndsSending};
+ghost use Rattle.contour.specs.Texts.{right_text};
 
 use crate::endings::Ending;
-use board_model::Board;
-use board_reader::{Input, Refusal, RefusalKind, count_lines, read_input, split_check};
-use geo_rect::List;
+use crate::lines::right_line;
+use crate::parts::{Checked, read_checked};
+use io_edge::{Sink, Source, write_all};
 use replay_check::{ReplayEnd, replay};
-use reply_reader::{ReadReplies, read_replies};
-use route_law::Reply;
 use std::alloc::Global;
 use strip_merge::StitchedPlane;
 
-/// How a check ends where no line `replies` is there: the text is refused as a board text, or for the line
-/// that is missing.
-fn without_replies(alloc: Global, bytes: &[u8]) -> Ending
-    requires short { length bytes.now ≤ 268435456 }
-    ensures { EndsUnsplit bytes.now result }
+/// Whether the replies are those of a run over the commands. It makes no search.
+pub fn judge(alloc: Global, checked: &Checked) -> Result<(), Ending>
+    requires commands { All (IsCommandOf checked.now.input.board.parts) checked.now.input.commands }
+    ensures ok { OnOk result (IsRun checked.now.input.board.parts checked.now.input.commands checked.now.replies) }
+    ensures err { IfErr result (EndsJudging (told_by checked.now.input) checked.now.replies) }
 {
-    match read_input(alloc, bytes) {
-        Ok(_) => Ending::Refused(Refusal {
-            line: count_lines(bytes) + 1,
-            kind: RefusalKind::NoEnd,
-        }),
-        Err(error) => Ending::from(error),
-    }
-}
-
-/// The replies that stand behind so many lines.
-fn replies_behind(
-    alloc: Global,
-    board: &Board,
-    bytes: &[u8],
-    before: u64,
-) -> Result<List<Reply>, Ending>
-    requires before { before < 2 ^ 32 }
-    requires short { length bytes.now ≤ 268435456 }
-    ensures ok { IfOk result (λ replies. IsReadingOf board.now.parts bytes.now replies) }
-    ensures err { IfErr result (EndsReplies board.now.parts bytes.now before) }
-{
-    match read_replies(alloc, board, bytes) {
-        Ok(replies) => Ok(replies),
-        Err(ReadReplies::Refused(number)) => Err(Ending::Refused(Refusal {
-            line: before + number,
-            kind: RefusalKind::BadReply,
-        })),
-        Err(ReadReplies::NoMemory) => Err(Ending::NoMemory),
-    }
-}
-
-/// How many replies stand behind so many lines, if they are right.
-fn judge(alloc: Global, input: &Input, bytes: &[u8], before: u64) -> Result<u64, Ending>
-    requires commands { All (IsCommandOf input.now.board.parts) input.now.commands }
-    requires before { before < 2 ^ 32 }
-    requires short { length bytes.now ≤ 268435456 }
-    ensures ok { IfOk result (AreRight (told_by input.now) bytes.now) }
-    ensures err { IfErr result (EndsJudging (told_by input.now) bytes.now before) }
-{
-    let replies = replies_behind(alloc, &input.board, bytes, before)?;
-    match replay::<StitchedPlane>(alloc, input, replies.as_slice())? {
-        ReplayEnd::Yes => Ok(replies.len() as u64),
+    match replay::<StitchedPlane>(alloc, &checked.input, checked.replies.as_slice())? {
+        ReplayEnd::Yes => Ok(()),
         ReplayEnd::No(number) => Err(Ending::Wrong(number)),
     }
 }
 
-/// How many replies there are, if they are those of a run over the commands of the board text before
-/// them.
-pub fn check_text(alloc: Global, bytes: &[u8]) -> Result<u64, Ending>
-    requires short { length bytes.now ≤ 268435456 }
-    ensures ok { IfOk result (IsRightCount bytes.now) }
-    ensures err { IfErr result (EndsChecking bytes.now) }
+/// Writes the line that says how many replies are right.
+fn tell_right<K: Sink>(alloc: Global, count: u64, out: &mut K) -> Result<(), Ending>
+    ensures ok { OnOk result (Appends (K.written out.old) (K.written out.new) (right_text count)) }
+    ensures err { IfErr result (EndsSending (right_text count) (K.written out.old) (K.written out.new) (K.faults out.old) (K.faults out.new)) }
+    ensures setup { K.setup out.new ≡ K.setup out.old }
 {
-    let Some(split) = split_check(bytes) else {
-        return Err(without_replies(alloc, bytes));
-    };
-    let input = read_input(alloc, &bytes[..split.text_end])?;
-    judge(alloc, &input, &bytes[split.replies_start..], split.lines)
+    write_all(out, right_line(alloc, count).as_slice())?;
+    Ok(())
+}
+
+/// Says how many replies there are, if all are right.
+fn tell_checked<K: Sink>(alloc: Global, checked: &Checked, out: &mut K) -> Result<(), Ending>
+    requires commands { All (IsCommandOf checked.now.input.board.parts) checked.now.input.commands }
+    ensures ok { OnOk result (TellsRight (told_by checked.now.input) checked.now.replies (K.written out.old) (K.written out.new)) }
+    ensures err { IfErr result (EndsTelling (told_by checked.now.input) checked.now.replies
+        (K.written out.old) (K.written out.new) (K.faults out.old) (K.faults out.new)) }
+    ensures unwritten { IfErr result (λ e. IsBeforeReplies e → out.new ≡ out.old) }
+    ensures setup { K.setup out.new ≡ K.setup out.old }
+{
+    judge(alloc, checked)?;
+    tell_right(alloc, checked.replies.len() as u64, out)
+}
+
+/// Reads a board text and the text of replies, and says how many are right.
+pub fn check<S: Source, K: Sink>(alloc: Global, source: &mut S, out: &mut K) -> Result<(), Ending>
+    ensures done { OnOk result (HasDone (S.left source.old) (K.written out.old) (K.written out.new) Asked.Check) }
+    ensures end { OnOk result (IsToldAs (S.left source.new) []) }
+    ensures err { IfErr result (EndsCall Asked.Check (S.left source.old) (S.faults source.old) (S.faults source.new)
+        (K.written out.old) (K.written out.new) (K.faults out.old) (K.faults out.new)) }
+    ensures unwritten { IfErr result (λ e. IsBeforeReplies e → out.new ≡ out.old) }
+    ensures source_setup { S.setup source.new ≡ S.setup source.old }
+    ensures sink_setup { K.setup out.new ≡ K.setup out.old }
+{
+    let checked = read_checked(alloc, source)?;
+    tell_checked(alloc, &checked, out)
 }

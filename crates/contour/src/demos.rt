@@ -3,11 +3,11 @@
 ghost use Rattle.std.specs.Prelude.{◌≡◌, ◌≤◌, OnOk, IfErr};
 ghost use Rattle.io_edge.specs.Streams.{Appends};
 ghost use Rattle.board_gen.specs.Generated.{asked};
+ghost use Rattle.call_words.specs.Numbers.{IsSize};
 ghost use Rattle.demo_text.specs.Bounds.{IsReplyTo};
 ghost use Rattle.demo_text.specs.Summary.{summary};
 ghost use Rattle.contour.specs.Demos.{EndsDemo, EndsFinish, EndsSummary, Finishes, IsOfGenerated, SumsUp};
 ghost use Rattle.contour.specs.Endings.{EndsSending};
-ghost use Rattle.contour.specs.Requests.{IsSize};
 
 use crate::answers::reply_to;
 use crate::begins::begin;

@@ -2,6 +2,7 @@ ghost use Rattle.std.specs.Prelude.{◌≡◌};
 ghost use Rattle.contour.specs.Endings.{status_of};
 
 use board_reader::{ReadInput, Refusal};
+use call_words::PlanError;
 use geo_rect::NoMemory;
 use io_edge::{ReadEnd, WriteFault};
 
@@ -101,6 +102,31 @@ impl From<ReadInput> for Ending {
         match input {
             ReadInput::Refused(refusal) => Ending::Refused(refusal),
             ReadInput::NoMemory => Ending::NoMemory,
+        }
+    }
+}
+
+impl From<Refusal> for Ending {
+    ghost use Rattle.std.specs.Prelude.{◌≡◌};
+    ghost use Rattle.contour.specs.declared.endings.Ending.TheVariants.{Refused};
+
+    ghost from_gives = { λ refusal e. e ≡ Refused refusal };
+
+    fn from(refusal: Refusal) -> Ending {
+        Ending::Refused(refusal)
+    }
+}
+
+impl From<PlanError> for Ending {
+    ghost use Rattle.std.specs.Prelude.{◌≡◌};
+    ghost use Rattle.contour.specs.Endings.{ending_of_plan};
+
+    ghost from_gives = { λ error e. e ≡ ending_of_plan error };
+
+    fn from(error: PlanError) -> Ending {
+        match error {
+            PlanError::Refused(refusal) => Ending::Refused(refusal),
+            PlanError::NoMemory => Ending::NoMemory,
         }
     }
 }

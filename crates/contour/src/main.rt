@@ -16,14 +16,18 @@ mod endings;
 mod in_memory;
 mod inputs;
 mod lines;
+mod parts;
 #[cfg(test)]
 mod reader_tests;
-mod requests;
+mod reports;
 #[cfg(test)]
 mod route_tests;
+mod sequels;
 #[cfg(test)]
 mod tests;
 mod upgrades;
+#[cfg(test)]
+mod words_tests;
 
 use crate::calls::contour;
 use crate::endings::Status;

@@ -56,7 +56,7 @@ fn has_in_order(rt: &impl Abort, out: &str, wanted: &str) {
 }
 
 /// Runs the program on this text, and looks for parts of some lines of its output.
-fn expect_parts(
+pub fn expect_parts(
     rt: &(impl Abort + AllocGlobal),
     words: &[&str],
     text: &[u8],

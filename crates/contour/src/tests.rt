@@ -258,7 +258,7 @@ fn a_text_without_its_end_is_refused_after_its_last_line(rt: HostRuntime) -> Res
 
 #[test]
 fn other_words_are_refused(rt: HostRuntime) -> Result<(), Fail> {
-    let rows: [&[&str]; 20] = [
+    let rows: [&[&str]; 22] = [
         &[],
         &["go"],
         &["run", "run"],
@@ -279,6 +279,8 @@ fn other_words_are_refused(rt: HostRuntime) -> Result<(), Fail> {
         &["gen", "2001"],
         &["gen", "--", "5"],
         &["--help"],
+        &["trace", "x"],
+        &["auto", "101"],
     ];
     for words in rows {
         expect(&rt, words, PLAIN, Status::BadWords, "", USAGE)?;

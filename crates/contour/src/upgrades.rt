@@ -3,10 +3,10 @@ ghost use Rattle.std.specs.Prelude.{◌≡◌, ◌≤◌, [], All, OnOk, IfErr};
 ghost use Rattle.io_edge.specs.Streams.{Appends, IsToldAs};
 ghost use Rattle.board_parts.specs.Commands.{IsCommandOf};
 ghost use Rattle.board_reader.specs.Contract.{told_by};
+ghost use Rattle.call_words.specs.Asked.{Asked};
 ghost use Rattle.text_upgrade.specs.Upgraded.{upgraded};
 ghost use Rattle.contour.specs.Causes.{EndsCall, HasDone, IsBeforeReplies};
 ghost use Rattle.contour.specs.Endings.{EndsSending};
-ghost use Rattle.contour.specs.declared.requests.Request.TheVariants.{Upgrade};
 
 use crate::endings::Ending;
 use crate::inputs::read_text;
@@ -33,9 +33,9 @@ pub fn upgrade_text<S: Source, K: Sink>(
     source: &mut S,
     out: &mut K,
 ) -> Result<(), Ending>
-    ensures done { OnOk result (HasDone (S.left source.old) (K.written out.old) (K.written out.new) Upgrade) }
+    ensures done { OnOk result (HasDone (S.left source.old) (K.written out.old) (K.written out.new) Asked.Upgrade) }
     ensures end { OnOk result (IsToldAs (S.left source.new) []) }
-    ensures err { IfErr result (EndsCall Upgrade (S.left source.old) (S.faults source.old) (S.faults source.new)
+    ensures err { IfErr result (EndsCall Asked.Upgrade (S.left source.old) (S.faults source.old) (S.faults source.new)
         (K.written out.old) (K.written out.new) (K.faults out.old) (K.faults out.new)) }
     ensures unwritten { IfErr result (λ e. IsBeforeReplies e → out.new ≡ out.old) }
     ensures source_setup { S.setup source.new ≡ S.setup source.old }

@@ -1,6 +1,6 @@
 use Rattle.std.proofs.Common.{◌≡◌, ◌≤◌, take}
 use Rattle.contour.specs.Sessions.{IsUnderway}
-use Rattle.contour.proofs.answers.answer_each.Given as goal
+use Rattle.contour.proofs.answers.answer_all.Given as goal
 
 -- the commands so far have their replies, and the session is in the state to which they led
 abbrev pub invariant-loop-command : goal.invariant-loop-command

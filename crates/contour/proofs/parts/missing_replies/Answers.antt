@@ -2,7 +2,7 @@ use Rattle.std.proofs.Common.{arith}
 use Rattle.std.proofs.lemmas.List.{length-map}
 use Rattle.board_reader.specs.Lines.{pieces, without_return}
 use Rattle.contour.proofs.Checking.{pieces-few}
-use Rattle.contour.proofs.checks.without_replies.Goals as goal
+use Rattle.contour.proofs.parts.missing_replies.Goals as goal
 
 pub overflow_add-result : goal.overflow_add-result
 overflow_add-result c =

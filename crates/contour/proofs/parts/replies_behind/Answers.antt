@@ -1,6 +1,6 @@
 use Rattle.std.proofs.Common.{arith}
 use Rattle.contour.proofs.Checking.{refused-few}
-use Rattle.contour.proofs.checks.replies_behind.Goals as goal
+use Rattle.contour.proofs.parts.replies_behind.Goals as goal
 
 pub overflow_add-result : goal.overflow_add-result
 overflow_add-result c =

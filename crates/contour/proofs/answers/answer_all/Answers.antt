@@ -7,7 +7,7 @@ use Rattle.contour.specs.Endings.{EndsAnswers}
 use Rattle.contour.specs.Sessions.{IsUnderway}
 use Rattle.contour.proofs.Replied.{underway_none, underway_next, answers_all, answers_first, ends_all}
 use Rattle.contour.proofs.Sent.{if_err_and}
-use Rattle.contour.proofs.answers.answer_each.Goals as goal
+use Rattle.contour.proofs.answers.answer_all.Goals as goal
 
 pub returns-in_err-session-clause-err : goal.returns-in_err-session-clause-err
 returns-in_err-session-clause-err g c =
@@ -53,6 +53,14 @@ loop-command-preserved g c =
 
 pub returns-clause-ok : goal.returns-clause-ok
 returns-clause-ok g c =
+    let sink = g.K.Sink in
+    let i = c.loop-command.invariant in
+    let b = c.args.board.parts in
+    let P : List Command → Type 0 = λ cs. IsUnderway b c.args.quiet cs c.loop-command.session.lists (sink.written c.args.out.now) (sink.written c.loop-command.out) in
+    subst P (take_all c.loop-command.command-index c.args.commands.now (omega arith)) i.underway
+
+pub returns-clause-all : goal.returns-clause-all
+returns-clause-all g c =
     let sink = g.K.Sink in
     let i = c.loop-command.invariant in
     let b = c.args.board.parts in
