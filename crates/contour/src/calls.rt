@@ -123,7 +123,9 @@ pub fn contour<S: Source, K: Sink, E: Sink>(
     // replies after the board text are right. Of `upgrade`: all was read, a board text, and its board and
     // commands were written as a text of the second version and nothing else. Of `gen`: nothing was read, and the text was written. Of
     // `demo`: nothing was read, and the replies to the commands of that text were written, and then
-    // their summary.
+    // their summary. Of a report: all was read, the replies are right, and the report on the state that
+    // they leave was written and nothing else. Of `through` and `auto`: all was read, a board text, and
+    // the replies to its commands were written, and then what came of routing on from there.
     ensures done { result ≡ Status.Done → IsRequestThat (map string_bytes words.now)
         (HasDone (S.left source.old) (K.written out.old) (K.written out.new)) }
     ensures read { result ≡ Status.Done → IsRequestThat (map string_bytes words.now)
