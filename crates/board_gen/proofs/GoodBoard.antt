@@ -19,7 +19,7 @@ use Rattle.board_parts.specs.declared.parts.Keepout.{Keepout}
 use Rattle.board_parts.specs.declared.parts.Pin.{Pin}
 use Rattle.board_parts.specs.declared.parts.Rule.{Rule}
 use Rattle.board_parts.specs.declared.parts.ViaKind.{ViaKind}
-use Rattle.board_reader.specs.Lines.{is_word_byte}
+use Rattle.line_words.specs.Lines.{is_word_byte}
 use Rattle.board_reader.specs.Reading.{reading}
 use Rattle.board_text.specs.declared.spelling.Version.TheVariants.{First}
 use Rattle.board_text.specs.Spelled.{spelled, told_of, class_at, IsOfFirstVersion}

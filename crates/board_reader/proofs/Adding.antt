@@ -13,9 +13,10 @@ use Rattle.board_reader.specs.declared.refusals.RefusalKind.TheVariants.{OutOfRa
 use Rattle.board_reader.specs.Drafts.{after_form, command_of, with_command}
 use Rattle.board_reader.specs.Forms.{stage_of}
 use Rattle.board_reader.specs.Kept.{IsDraft, IsWord}
-use Rattle.board_reader.specs.Lines.{word}
+use Rattle.line_words.specs.Lines.{word}
 use Rattle.board_reader.specs.Names.{is_in}
-use Rattle.board_reader.specs.Numbers.{number, IsShort, HaveShortCorners}
+use Rattle.line_words.specs.Numbers.{number}
+use Rattle.board_reader.specs.Lengths.{IsShort, HaveShortCorners}
 use Rattle.board_reader.specs.Passing.{BreaksNone}
 use Rattle.board_reader.proofs.Ascii.{ascii-bytes}
 use Rattle.board_reader.proofs.Unbroken.{each-place, in-range, in-width, in-height, is-fresh}

@@ -23,7 +23,7 @@ use Rattle.board_reader.specs.Checks.{fails, kind_of_line, kind_with}
 use Rattle.board_reader.specs.Contract.{told_by, TellsReading}
 use Rattle.board_reader.specs.Drafts.{no_draft, net_of, after_form, with_command, parts_of}
 use Rattle.board_reader.specs.Forms.{form_of, is_stage}
-use Rattle.board_reader.specs.Lines.{lines, counts, words, word}
+use Rattle.line_words.specs.Lines.{lines, counts, words, word}
 use Rattle.board_reader.specs.Passing.{BreaksNone}
 use Rattle.board_reader.specs.Reading.{Told, after_words, after_line, unless, step, goes_on, told, reading_from, reading}
 use Rattle.board_reader.proofs.Naming.{number-in-range}

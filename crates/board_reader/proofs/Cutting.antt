@@ -7,7 +7,7 @@ use Rattle.std.proofs.lemmas.Bool.{cases_lt, cond-true}
 use Rattle.std.proofs.lemmas.Bool.Decides.{nat_tests}
 use Rattle.std.proofs.lemmas.List.Sums.{sum_by-cons}
 use Rattle.board_reader.specs.declared.splits.Split.{Split}
-use Rattle.board_reader.specs.Lines.{pieces, lines, without_return}
+use Rattle.line_words.specs.Lines.{pieces, lines, without_return}
 use Rattle.board_reader.specs.Splits.{is_mark, bytes_of, split_at, split_of}
 
 -- the first line with what ends it, and what follows

@@ -12,7 +12,7 @@ use Rattle.board_reader.specs.Checks.{applies, order, kind_of_line, kind_with}
 use Rattle.board_reader.specs.Drafts.{no_draft}
 use Rattle.board_reader.specs.Forms.{form_of, is_stage}
 use Rattle.board_reader.specs.Law.{NoneApplies, IsFirst, BreaksNoRule, with_line, BreakNoRule, IsFirstBroken, HasNoEnd, IsRefusal, IsTold}
-use Rattle.board_reader.specs.Lines.{lines, counts, words, word}
+use Rattle.line_words.specs.Lines.{lines, counts, words, word}
 use Rattle.board_reader.specs.Reading.{Told, told, step, after_line, reading_from, reading, goes_on}
 use Rattle.board_reader.proofs.Lining.{ended, not-ended}
 use Rattle.board_reader.proofs.Stepping.{skipped, refused, passed, cases_option}

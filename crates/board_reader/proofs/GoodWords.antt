@@ -6,8 +6,8 @@ use Rattle.std.proofs.lemmas.Bool.{cases_Bool, leb-true, and_parts, or_cases, no
 use Rattle.std.proofs.lemmas.List.Elements.{All-cons, All-nil, All-from_recursion}
 use Rattle.board_parts.specs.Rules.{IsWordByte}
 use Rattle.board_reader.specs.Kept.{IsWord}
-use Rattle.board_reader.specs.Lines.{words, onto, is_blank, is_word_byte, is_other_byte, begins_word}
-use Rattle.board_reader.proofs.FirstWord.{words-blank, words-inside, words-last}
+use Rattle.line_words.specs.Lines.{words, onto, is_blank, is_word_byte, is_other_byte, begins_word}
+use Rattle.line_words.proofs.FirstWord.{words-blank, words-inside, words-last}
 use Rattle.board_reader.proofs.Unbroken.{or-left, or-right}
 
 word-byte : (b : ℕ) → is_blank b ≡ false → is_other_byte b ≡ false → IsWordByte b

@@ -11,10 +11,10 @@ use Rattle.std.proofs.lemmas.List.Sums.{sum_by-cons}
 use Rattle.std.proofs.lemmas.Slice.Eq.{bytes_eq-Decides}
 use Rattle.std.proofs.Math.Seq.{take-nil, drop-nil, split_at as cut_at}
 use Rattle.board_reader.specs.declared.splits.Split.{Split}
-use Rattle.board_reader.specs.Lines.{pieces, onto, lines, words, without_return}
+use Rattle.line_words.specs.Lines.{pieces, onto, lines, words, without_return}
 use Rattle.board_reader.specs.Splits.{is_alone, is_mark, bytes_of, split_at, split_of, IsNoMark, IsSplit}
 use Rattle.board_reader.proofs.Cutting.{position-here, position-later}
-use Rattle.board_reader.proofs.Pieces.{pieces-feed, pieces-other}
+use Rattle.line_words.proofs.Pieces.{pieces-feed, pieces-other}
 
 -- how many bytes a piece has with its line feed
 abbrev size : List ℕ → ℕ

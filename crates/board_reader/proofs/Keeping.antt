@@ -16,8 +16,8 @@ use Rattle.board_reader.specs.declared.refusals.RefusalKind.TheVariants.{BadWord
 use Rattle.board_reader.specs.Checks.{fails_whole, is_crossed, is_complete}
 use Rattle.board_reader.specs.Drafts.{after_form, area_at, layer_of, kind_of, nth_kind, command_of, with_command}
 use Rattle.board_reader.specs.Kept.{IsDraft, IsInnerOf, IsWord}
-use Rattle.board_reader.specs.Lines.{word}
-use Rattle.board_reader.specs.Numbers.{number}
+use Rattle.line_words.specs.Lines.{word}
+use Rattle.line_words.specs.Numbers.{number}
 use Rattle.board_reader.specs.Passing.{BreaksNone}
 use Rattle.board_reader.proofs.Adding.{layer-fresh, class-fresh, kind-fresh, net-fresh, rule-half, rule-gap, clear-gap, kind-charge, pad-half, inner-half, OnBoard, block-corners, keepout-corners, pin-corners}
 use Rattle.board_reader.proofs.Growing.{rules-push, clears-push, pads-push, kinds-push, kinds-grow, inners-grow, nets-push, nets-grow, blocks-push, keepouts-push, blocks-grow, blocks-none, pins-push, pins-grow, pins-none, measure-in, side-in}

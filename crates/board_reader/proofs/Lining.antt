@@ -11,7 +11,7 @@ use Rattle.board_reader.specs.Contract.{at_line, TellsReading, TellsStep, TellsL
 use Rattle.board_reader.specs.declared.forms.Stage.TheVariants.{Commands}
 use Rattle.board_reader.specs.declared.refusals.RefusalKind.TheVariants.{NoEnd}
 use Rattle.board_reader.specs.Forms.{is_stage}
-use Rattle.board_reader.specs.Lines.{lines}
+use Rattle.line_words.specs.Lines.{lines}
 use Rattle.board_reader.specs.Reading.{Told, told, step, reading_from, goes_on}
 
 -- a line that is read

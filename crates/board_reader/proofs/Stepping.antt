@@ -14,7 +14,7 @@ use Rattle.board_reader.specs.Checks.{applies, breaks, some_fails, fails_whole, 
 use Rattle.board_reader.specs.Drafts.{after_form}
 use Rattle.board_reader.specs.Forms.{form_of, places}
 use Rattle.board_reader.specs.Kept.{IsDraft, IsWord}
-use Rattle.board_reader.specs.Lines.{word, words, counts, is_other_byte}
+use Rattle.line_words.specs.Lines.{word, words, counts, is_other_byte}
 use Rattle.board_reader.specs.Passing.{BreaksNone}
 use Rattle.board_reader.specs.Reading.{step, unless, after_line, after_words}
 use Rattle.board_reader.proofs.GoodWords.{words-are-words}

@@ -13,9 +13,9 @@ use Rattle.board_reader.specs.declared.refusals.RefusalKind.{RefusalKind}
 use Rattle.board_reader.specs.declared.refusals.RefusalKind.TheVariants.{BadWord, OutOfRange, UnknownName, TwiceNamed, WrongPlace}
 use Rattle.board_reader.specs.Checks.{breaks, fails, some_fails, fails_whole, is_too_new, names_of}
 use Rattle.board_reader.specs.Forms.{places, stage_of, is_stage}
-use Rattle.board_reader.specs.Lines.{word}
+use Rattle.line_words.specs.Lines.{word}
 use Rattle.board_reader.specs.Names.{is_in}
-use Rattle.board_reader.specs.Numbers.{number}
+use Rattle.line_words.specs.Numbers.{number}
 use Rattle.board_reader.specs.Passing.{BreaksNone}
 
 pub or-left : (x y : Bool) → (x || y) ≡ false → x ≡ false

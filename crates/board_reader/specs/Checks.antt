@@ -15,9 +15,9 @@ use Rattle.board_reader.specs.declared.refusals.RefusalKind.TheVariants.{NotAsci
 use Rattle.board_reader.specs.Drafts.{layer_of, class_of, kind_of, nth_kind, says_wires, says_vias}
 use Rattle.board_reader.specs.Forms.{places, stage_of, is_stage, form_of}
 use Rattle.board_reader.specs.Gaps.{clear_at}
-use Rattle.board_reader.specs.Lines.{word, words, is_other_byte}
+use Rattle.line_words.specs.Lines.{word, words, is_other_byte}
 use Rattle.board_reader.specs.Names.{is_in}
-use Rattle.board_reader.specs.Numbers.{number, is_number}
+use Rattle.line_words.specs.Numbers.{number, is_number}
 use Rattle.board_reader.specs.Tables.{value_at, is_full}
 
 -- the names of a sort that the lines before gave

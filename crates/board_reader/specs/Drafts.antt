@@ -14,9 +14,9 @@ use Rattle.board_reader.specs.declared.forms.Form.TheVariants as form
 use Rattle.board_reader.specs.declared.forms.Stage.TheVariants.{Start, Parts, Commands}
 use Rattle.board_reader.specs.Corners.{span}
 use Rattle.board_reader.specs.Gaps.{all_gaps}
-use Rattle.board_reader.specs.Lines.{word}
+use Rattle.line_words.specs.Lines.{word}
 use Rattle.board_reader.specs.Names.{number_in}
-use Rattle.board_reader.specs.Numbers.{number}
+use Rattle.line_words.specs.Numbers.{number}
 use Rattle.board_reader.specs.Tables.{table}
 
 -- what no lines say

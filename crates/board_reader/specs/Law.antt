@@ -8,7 +8,7 @@ use Rattle.board_reader.specs.declared.refusals.RefusalKind.TheVariants.{NoEnd}
 use Rattle.board_reader.specs.Checks.{applies, order}
 use Rattle.board_reader.specs.Drafts.{no_draft}
 use Rattle.board_reader.specs.Forms.{form_of}
-use Rattle.board_reader.specs.Lines.{lines, counts, words, word}
+use Rattle.line_words.specs.Lines.{lines, counts, words, word}
 use Rattle.board_reader.specs.Reading.{Told, told, after_line}
 
 -- the line breaks a rule of the kind, given what the lines before it say

@@ -8,9 +8,8 @@ pub mod Gaps
 pub mod Kinds
 pub mod Kept
 pub mod Law
-pub mod Lines
+pub mod Lengths
 pub mod Names
-pub mod Numbers
 pub mod Passing
 pub mod Reading
 pub mod Splits

@@ -11,7 +11,7 @@ use Rattle.board_reader.specs.declared.refusals.RefusalKind.TheVariants.{NoEnd}
 use Rattle.board_reader.specs.Checks.{kind_of_line}
 use Rattle.board_reader.specs.Drafts.{no_draft, after_form, parts_of}
 use Rattle.board_reader.specs.Forms.{form_of, is_stage}
-use Rattle.board_reader.specs.Lines.{lines, counts, words, word}
+use Rattle.line_words.specs.Lines.{lines, counts, words, word}
 
 -- what a board text says
 pub record Told : Type 0 where

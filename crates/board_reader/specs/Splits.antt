@@ -4,7 +4,7 @@ use Rattle.std.specs.List.{sum_by}
 use Rattle.std.specs.Option.{option_map}
 use Rattle.std.specs.Str.{bytes_eq}
 use Rattle.board_reader.specs.declared.splits.Split.{Split}
-use Rattle.board_reader.specs.Lines.{pieces, lines, words}
+use Rattle.line_words.specs.Lines.{pieces, lines, words}
 
 -- there is one word, and it is this one
 abbrev pub is_alone : List ℕ → List (List ℕ) → Bool

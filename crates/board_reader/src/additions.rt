@@ -3,20 +3,20 @@ ghost use Rattle.std.specs.Str.{IsAscii};
 ghost use Rattle.board_reader.specs.declared.forms.Form.TheVariants as form;
 ghost use Rattle.board_reader.specs.Corners.{span};
 ghost use Rattle.board_reader.specs.Drafts.{after_form, area_at, command_of, net_of, with_command};
-ghost use Rattle.board_reader.specs.Lines.{word};
+ghost use Rattle.line_words.specs.Lines.{word};
+ghost use Rattle.board_reader.specs.Lengths.{IsShort, HaveShortCorners};
 ghost use Rattle.board_reader.specs.Names.{is_in};
-ghost use Rattle.board_reader.specs.Numbers.{number, IsShort, HaveShortCorners};
+ghost use Rattle.line_words.specs.Numbers.{number};
 
 use crate::checks::says_wires;
 use crate::drafts::{Draft, Heading};
 use crate::forms::{Form, Stage};
 use crate::gaps::Clear;
 use crate::names::text_of;
-use crate::numbers::number;
 use crate::tables::Entry;
-use crate::words::Words;
 use board_parts::{Block, Command, Keepout, Pin, Rule, ViaKind};
 use geo_rect::{ClassId, Interval, LayerId, NetId, NoMemory, Rect};
+use line_words::{Words, number};
 use std::alloc::Global;
 
 /// The number of a word as a length in micrometres.

@@ -4,21 +4,19 @@ ghost use Rattle.board_parts.specs.declared.limits.TheConstants.{MAX_BLOCKS};
 ghost use Rattle.board_reader.specs.Checks.{names_of, is_bad_word, is_no_number, is_unknown, is_taken, is_outside, fails, some_fails, is_given, has_two_layers, is_crossed, is_bad_rect, is_one_too_many, is_complete, is_missing, is_too_new, is_too_great, fails_whole, breaks, kind_with, form_order};
 ghost use Rattle.board_reader.specs.Drafts.{kind_of, nth_kind, says_wires, says_vias};
 ghost use Rattle.board_reader.specs.Forms.{places};
-ghost use Rattle.board_reader.specs.Lines.{word};
-ghost use Rattle.board_reader.specs.Numbers.{number};
+ghost use Rattle.line_words.specs.Lines.{word};
+ghost use Rattle.line_words.specs.Numbers.{number};
 
 use crate::drafts::Draft;
 use crate::forms::{Form, Place, Sort, form_of};
 use crate::gaps::clear_at;
-use crate::lines::has_other_byte;
 use crate::names::Names;
-use crate::numbers::{is_number, number};
 use crate::refusals::RefusalKind;
 use crate::tables::{is_full, value_at};
-use crate::words::Words;
 use board_parts::{
     MAX_BLOCKS, MAX_CLASSES, MAX_COMMANDS, MAX_KINDS, MAX_LAYERS, MAX_NAME, MAX_NETS, MAX_PINS,
 };
+use line_words::{Words, has_other_byte, is_number, number};
 
 /// The kinds that are left for a line whose first word is a form, in the order in which they are told.
 const ORDER: [RefusalKind; 9] = [

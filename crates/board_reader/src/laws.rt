@@ -2,7 +2,7 @@ ghost use Rattle.std.specs.Prelude.{◌≡◌, ◌↔◌, ℕ, List, Ok, Err, So
 ghost use Rattle.board_reader.specs.declared.refusals.Refusal.{Refusal};
 ghost use Rattle.board_reader.specs.Drafts.{no_draft};
 ghost use Rattle.board_reader.specs.Law.{IsRefusal, IsTold};
-ghost use Rattle.board_reader.specs.Lines.{lines};
+ghost use Rattle.line_words.specs.Lines.{lines};
 ghost use Rattle.board_reader.specs.Reading.{Told, reading};
 ghost use Rattle.board_reader.specs.Splits.{split_of, IsSplit, IsNoMark};
 ghost use Rattle.board_reader.specs.declared.splits.Split.{Split};

@@ -9,14 +9,11 @@ mod forms;
 mod gaps;
 mod inputs;
 mod laws;
-mod lines;
 mod names;
-mod numbers;
 mod reading;
 mod refusals;
 mod splits;
 mod tables;
-mod words;
 
 pub use inputs::Input;
 pub use laws::{refusals_are_first, splits_are_first};

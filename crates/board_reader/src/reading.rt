@@ -4,17 +4,16 @@ ghost use Rattle.board_reader.specs.declared.reading.LineError.TheVariants as li
 ghost use Rattle.board_reader.specs.Contract.{at_line, TellsReading, TellsStep, TellsLines};
 ghost use Rattle.board_reader.specs.Drafts.{after_form};
 ghost use Rattle.board_reader.specs.Kept.{IsDraft, IsWord};
-ghost use Rattle.board_reader.specs.Lines.{lines};
+ghost use Rattle.line_words.specs.Lines.{lines};
 ghost use Rattle.board_reader.specs.Passing.{BreaksNone};
 ghost use Rattle.board_reader.specs.Reading.{step, reading_from, reading};
 
 use crate::drafts::Draft;
 use crate::forms::{Form, form_of};
 use crate::inputs::Input;
-use crate::lines::{counts, next_line};
 use crate::refusals::{ReadInput, Refusal, RefusalKind};
-use crate::words::Words;
 use geo_rect::NoMemory;
+use line_words::{Words, counts, next_line};
 use std::alloc::Global;
 
 /// Why a line was not read.

@@ -1,9 +1,8 @@
 ghost use Rattle.std.specs.Prelude.{◌≡◌, ◌≤◌, length, IfSome};
-ghost use Rattle.board_reader.specs.Lines.{lines};
+ghost use Rattle.line_words.specs.Lines.{lines};
 ghost use Rattle.board_reader.specs.Splits.{is_mark, split_of};
 
-use crate::lines::{next_piece, without_return};
-use crate::words::next_word;
+use line_words::{next_piece, next_word, without_return};
 
 /// Where the text of a board ends and the text of replies begins.
 #[derive(Clone, Copy)]

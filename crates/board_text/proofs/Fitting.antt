@@ -13,9 +13,9 @@ use Rattle.board_reader.specs.declared.refusals.RefusalKind.TheVariants.{BadWord
 use Rattle.board_reader.specs.Checks.{fails, some_fails, fails_whole, breaks, names_of, is_bad_word, is_no_number, is_unknown, is_taken, is_outside, is_given, is_bad_rect, is_one_too_many, is_missing, is_too_new, is_too_great}
 use Rattle.board_reader.specs.Drafts.{says_wires, says_vias}
 use Rattle.board_reader.specs.Forms.{places, stage_of, is_stage}
-use Rattle.board_reader.specs.Lines.{word}
+use Rattle.line_words.specs.Lines.{word}
 use Rattle.board_reader.specs.Names.{is_in}
-use Rattle.board_reader.specs.Numbers.{number, is_number}
+use Rattle.line_words.specs.Numbers.{number, is_number}
 use Rattle.board_reader.specs.Passing.{BreaksNone}
 
 -- the word is a number from the first to the second

@@ -20,7 +20,7 @@ use Rattle.board_reader.specs.Corners.{span}
 use Rattle.board_reader.specs.Drafts.{after_form, layer_of, says_wires, says_vias}
 use Rattle.board_reader.specs.Drafts as drafts
 use Rattle.board_reader.specs.Forms.{spelling}
-use Rattle.board_reader.specs.Numbers.{number}
+use Rattle.line_words.specs.Numbers.{number}
 use Rattle.board_text.specs.declared.spelling.Version.{Version}
 use Rattle.board_text.specs.Spelled.{block_line, kept_out, keepout_line, net_line, pin_line, net_at, corners_and}
 use Rattle.board_text.proofs.Drafts.{Given, with_blocks, with_keepouts, with_nets, with_pins}

@@ -8,9 +8,9 @@ use Rattle.board_parts.specs.Rules.{IsWordByte, IsName}
 use Rattle.board_reader.specs.declared.forms.Form.{Form}
 use Rattle.board_reader.specs.declared.forms.Form.TheVariants as form
 use Rattle.board_reader.specs.Forms.{spelling, form_of}
-use Rattle.board_reader.specs.Lines.{pieces, lines, onto, words, begins_word, is_blank, is_word_byte, is_other_byte, counts, without_return}
-use Rattle.board_reader.proofs.FirstWord.{words-blank, words-inside, words-last}
-use Rattle.board_reader.proofs.Pieces.{pieces-feed, pieces-other}
+use Rattle.line_words.specs.Lines.{pieces, lines, onto, words, begins_word, is_blank, is_word_byte, is_other_byte, counts, without_return}
+use Rattle.line_words.proofs.FirstWord.{words-blank, words-inside, words-last}
+use Rattle.line_words.proofs.Pieces.{pieces-feed, pieces-other}
 use Rattle.board_text.specs.Spelled.{spaced}
 use Rattle.std.specs.Prelude.{Some}
 

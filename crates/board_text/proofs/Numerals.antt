@@ -13,7 +13,7 @@ use Rattle.geo_rect.specs.Plane.{columns, rows, rect_of}
 use Rattle.geo_rect.proofs.Same.{same_interval, same_rect}
 use Rattle.board_parts.specs.Rules.{IsWordByte}
 use Rattle.board_reader.specs.Corners.{span}
-use Rattle.board_reader.specs.Numbers.{number, is_number, is_digit, value_from}
+use Rattle.line_words.specs.Numbers.{number, is_number, is_digit, value_from}
 use Rattle.board_text.proofs.Fitting.{HasNumber}
 use Rattle.board_text.proofs.Lines.{IsGood}
 

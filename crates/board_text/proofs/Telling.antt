@@ -10,7 +10,7 @@ use Rattle.board_reader.specs.declared.forms.Stage.TheVariants.{Commands}
 use Rattle.board_reader.specs.Checks.{applies, kind_with, kind_of_line, order}
 use Rattle.board_reader.specs.Drafts.{after_form}
 use Rattle.board_reader.specs.Forms.{spelling, form_of}
-use Rattle.board_reader.specs.Lines.{lines, words, word, is_other_byte}
+use Rattle.line_words.specs.Lines.{lines, words, word, is_other_byte}
 use Rattle.board_reader.specs.Passing.{BreaksNone}
 use Rattle.board_reader.specs.Reading.{told, step, reading_from}
 use Rattle.board_reader.proofs.Lining.{lines-next, ended}

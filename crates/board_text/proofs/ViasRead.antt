@@ -20,7 +20,7 @@ use Rattle.board_reader.specs.Checks.{has_two_layers}
 use Rattle.board_reader.specs.Drafts.{after_form, layer_of, class_of, nth_kind}
 use Rattle.board_reader.specs.Drafts as drafts
 use Rattle.board_reader.specs.Forms.{spelling}
-use Rattle.board_reader.specs.Numbers.{number}
+use Rattle.line_words.specs.Numbers.{number}
 use Rattle.board_reader.specs.Tables.{value_at}
 use Rattle.board_text.specs.declared.spelling.Version.{Version}
 use Rattle.board_text.specs.Spelled.{line, kind_line, pad_line, pad_lines, inner_line, inner_lines, kind_at, class_at}

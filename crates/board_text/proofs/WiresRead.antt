@@ -14,7 +14,7 @@ use Rattle.board_reader.specs.declared.forms.Form.TheVariants as form
 use Rattle.board_reader.specs.declared.tables.Entry.{Entry}
 use Rattle.board_reader.specs.Drafts.{no_draft, after_form, layer_of, class_of}
 use Rattle.board_reader.specs.Forms.{spelling}
-use Rattle.board_reader.specs.Numbers.{number}
+use Rattle.line_words.specs.Numbers.{number}
 use Rattle.board_reader.specs.Tables.{value_at}
 use Rattle.board_text.specs.declared.spelling.Version.{Version}
 use Rattle.board_text.specs.declared.spelling.Version.TheVariants.{First, Second}

@@ -3,7 +3,7 @@ use Rattle.std.proofs.Common.{◌≡◌, ℕ, ◌+◌, ◌-◌, ◌≤◌, ◌<�
 use Rattle.std.proofs.lemmas.List.{length-append, length-drop, take_all}
 use Rattle.std.specs.List.{flat_map}
 use Rattle.board_parts.specs.declared.parts.BoardParts.{BoardParts}
-use Rattle.board_reader.specs.Lines.{onto, pieces, lines, without_return}
+use Rattle.line_words.specs.Lines.{onto, pieces, lines, without_return}
 use Rattle.board_reader.specs.Reading.{reading, Told}
 use Rattle.board_reader.specs.Splits.{split_of}
 use Rattle.board_reader.specs.declared.refusals.Refusal.{Refusal}

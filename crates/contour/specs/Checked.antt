@@ -2,7 +2,7 @@
 use Rattle.std.specs.Prelude.{◌≡◌, ℕ, ◌+◌, ◌≤◌, ◌⊎◌, List, length, take, drop, Option, Some, None, Ok, Err}
 use Rattle.io_edge.specs.Streams.{Appends, AppendsPart, Rose}
 use Rattle.board_parts.specs.declared.parts.BoardParts.{BoardParts}
-use Rattle.board_reader.specs.Lines.{lines}
+use Rattle.line_words.specs.Lines.{lines}
 use Rattle.board_reader.specs.Reading.{reading, Told}
 use Rattle.board_reader.specs.Splits.{split_of}
 use Rattle.board_reader.specs.declared.refusals.Refusal.{Refusal}

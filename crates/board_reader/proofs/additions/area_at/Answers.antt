@@ -1,8 +1,8 @@
 use Rattle.std.proofs.Common.{◌≡◌, ◌+◌, ◌∙◌, ap}
 use Rattle.geo_rect.specs.Plane.{rect_of}
 use Rattle.board_reader.specs.Corners.{span}
-use Rattle.board_reader.specs.Lines.{word}
-use Rattle.board_reader.specs.Numbers.{number}
+use Rattle.line_words.specs.Lines.{word}
+use Rattle.line_words.specs.Numbers.{number}
 use Rattle.board_reader.proofs.additions.area_at.Goals as goal
 
 pub returns : goal.returns

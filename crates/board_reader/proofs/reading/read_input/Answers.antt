@@ -1,7 +1,7 @@
 use Rattle.std.proofs.Common.{subst, sym}
 use Rattle.board_reader.specs.Contract.{TellsReading}
 use Rattle.board_reader.specs.Kept.{IsDraft}
-use Rattle.board_reader.specs.Lines.{lines}
+use Rattle.line_words.specs.Lines.{lines}
 use Rattle.board_reader.specs.Reading.{reading, reading_from}
 use Rattle.board_reader.proofs.Commanding.{commands_of_reading}
 use Rattle.board_reader.proofs.Starting.{empty-draft}

@@ -1,5 +1,5 @@
 use Rattle.std.proofs.Common.{◌≡◌, ◌+◌, ◌≤◌, length}
-use Rattle.board_reader.specs.Lines.{pieces}
+use Rattle.line_words.specs.Lines.{pieces}
 use Rattle.board_reader.proofs.splits.count_lines.Given as goal
 
 abbrev pub invariant-loop-rest : goal.invariant-loop-rest

@@ -1,6 +1,6 @@
 use Rattle.std.proofs.Common.{◌≡◌, ◌∙◌, true, false, sym, ap, arith}
 use Rattle.std.proofs.lemmas.Bool.{eqb-true}
-use Rattle.board_reader.specs.Lines.{without_return}
+use Rattle.line_words.specs.Lines.{without_return}
 use Rattle.board_reader.specs.Splits.{is_mark}
 use Rattle.board_reader.proofs.Cutting.{IsCut, cut-later, cut-here, cut-none}
 use Rattle.board_reader.proofs.splits.split_check.Goals as goal

@@ -1,6 +1,6 @@
 use Rattle.std.proofs.Common.{arith}
 use Rattle.std.proofs.lemmas.List.{length-map}
-use Rattle.board_reader.specs.Lines.{pieces, without_return}
+use Rattle.line_words.specs.Lines.{pieces, without_return}
 use Rattle.contour.proofs.Checking.{pieces-few}
 use Rattle.contour.proofs.parts.missing_replies.Goals as goal
 

@@ -1,6 +1,6 @@
 use Rattle.std.proofs.Common.{◌≡◌, true, Some, None, Ok, sym, ap, ◌∙◌}
 use Rattle.board_reader.specs.Drafts.{after_form}
-use Rattle.board_reader.specs.Lines.{counts}
+use Rattle.line_words.specs.Lines.{counts}
 use Rattle.board_reader.proofs.Stepping.{line-kind, line-form, passing-words, skipped, refused, passed}
 use Rattle.board_reader.proofs.drafts.Draft.read_line.Goals as goal
 use Rattle.board_reader.proofs.drafts.Draft.read_line.Goals.{in-Some-form_of+in_ok-add, in_default-form_of}

@@ -2,7 +2,7 @@ use Rattle.std.proofs.Common.{◌≡◌, [], Err, sym, ap, ◌∙◌, arith, sub
 use Rattle.std.proofs.lemmas.Bool.{eqb-true}
 use Rattle.std.proofs.lemmas.List.{nil_from_length}
 use Rattle.board_reader.specs.Contract.{TellsLines}
-use Rattle.board_reader.specs.Lines.{lines}
+use Rattle.line_words.specs.Lines.{lines}
 use Rattle.board_reader.specs.Reading.{reading_from}
 use Rattle.board_reader.proofs.Lining.{lines-next, lines-fail}
 use Rattle.board_reader.proofs.Stepping.{step-keeps}

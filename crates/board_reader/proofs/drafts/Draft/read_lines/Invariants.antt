@@ -1,6 +1,6 @@
 use Rattle.std.proofs.Common.{◌≡◌, ◌+◌, ◌≤◌, length}
 use Rattle.board_reader.specs.Kept.{IsDraft}
-use Rattle.board_reader.specs.Lines.{lines}
+use Rattle.line_words.specs.Lines.{lines}
 use Rattle.board_reader.specs.Reading.{reading_from}
 use Rattle.board_reader.proofs.drafts.Draft.read_lines.Given as goal
 

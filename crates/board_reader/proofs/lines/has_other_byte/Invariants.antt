@@ -1,7 +1,0 @@
-use Rattle.std.proofs.Common.{◌≡◌, drop}
-use Rattle.std.specs.List.{list_any}
-use Rattle.board_reader.specs.Lines.{is_other_byte}
-use Rattle.board_reader.proofs.lines.has_other_byte.Given as goal
-
-abbrev pub invariant-loop-byte : goal.invariant-loop-byte
-invariant-loop-byte l = list_any is_other_byte (drop l.byte-index l.line) ≡ list_any is_other_byte l.line

@@ -1,8 +1,0 @@
-use Rattle.std.proofs.Common.{◌≡◌, ◌+◌, drop}
-use Rattle.std.specs.Prelude.{not}
-use Rattle.std.specs.List.{prefix_len}
-use Rattle.board_reader.specs.Lines.{is_blank}
-use Rattle.board_reader.proofs.words.word_length.Given as goal
-
-abbrev pub invariant-loop-index : goal.invariant-loop-index
-invariant-loop-index l = prefix_len (λ b. not (is_blank b)) l.line ≡ l.index + prefix_len (λ b. not (is_blank b)) (drop l.index l.line)
