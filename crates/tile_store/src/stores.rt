@@ -6,6 +6,7 @@ use crate::tiles::{Tile, TileId};
 use geo_rect::NoMemory;
 use slab::Slab;
 use std::alloc::Global;
+use std::cell::Cell;
 use std::marker::Model;
 use std::sync::ledger::Ledger;
 
@@ -15,6 +16,8 @@ pub struct TileStore {
     tiles: Slab<Tile>,
     /// How many more tiles have their place already.
     spare: usize,
+    /// The number of the tile that was read or put last, which may be gone.
+    recent: Cell<usize>,
 }
 
 impl Model for TileStore {
@@ -37,6 +40,7 @@ impl TileStore {
         TileStore {
             tiles: Slab::new(alloc),
             spare: 0,
+            recent: Cell::new(0),
         }
     }
 
@@ -47,6 +51,7 @@ impl TileStore {
         ensures counted { steps.new ≡ steps.old + 1 }
     {
         steps.tick();
+        self.recent.set(id.0);
         match self.tiles.get(id.0) {
             Some(tile) => *tile,
             None => unreachable!(),
@@ -59,6 +64,7 @@ impl TileStore {
         ensures changed { ChangesAt self.old self.new id (Some t) }
         ensures spare { self.old.spare ≤ self.new.spare }
     {
+        self.recent.set(id.0);
         if let Some(tile) = self.tiles.get_mut(id.0) {
             *tile = t;
         }
@@ -82,11 +88,16 @@ impl TileStore {
         self.spare
     }
 
-    /// A number that is present; `None` where there is no tile. It counts as no step.
+    /// A number that is present: that of the tile that was read or put last, if it is still there, and
+    /// else that of any. `None` where there is no tile. It counts as no step.
     pub fn some_id(&self) -> Option<TileId>
         ensures some { IfSome result (λ id. IsPresent self.now id) }
         ensures none { IfNone result (HasNoTile self.now) }
     {
+        let recent = self.recent.get();
+        if self.tiles.contains(recent) {
+            return Some(TileId(recent));
+        }
         let (key, _) = self.tiles.iter().next()?;
         Some(TileId(key))
     }
@@ -99,7 +110,9 @@ impl TileStore {
         ensures spare { self.old.spare ≤ self.new.spare + 1 }
     {
         self.spare -= 1;
-        TileId(self.tiles.insert_reserved(t))
+        let key = self.tiles.insert_reserved(t);
+        self.recent.set(key);
+        TileId(key)
     }
 
     /// Takes out the tile under a number that is present.
