@@ -1,5 +1,5 @@
 -- Connections that were made one after another are walks one after another, so that a session refuses none.
-use Rattle.std.proofs.Common.{ℕ, zero, suc, ◌≡◌, ◌+◌, ◌<◌, ◌≤◌, ◌⊎◌, inl, inr, List, [], ◌∷◌, ◌++◌, length, take, map, Some, refl, sym, ◌∙◌, ap, subst, arith}
+use Rattle.std.proofs.Common.{ℕ, zero, suc, ◌≡◌, ◌+◌, ◌<◌, ◌≤◌, List, [], ◌∷◌, ◌++◌, length, take, map, Some, sym, subst, arith}
 use Rattle.std.specs.Prelude.{slice_get}
 use Rattle.std.proofs.lemmas.List.{length-set}
 use Rattle.std.proofs.lemmas.Option.{same_Some}
@@ -8,23 +8,21 @@ use Rattle.geo_rect.specs.declared.ids.Node.{Node}
 use Rattle.geo_rect.specs.declared.ids.Spot.{Spot}
 use Rattle.board_model.specs.declared.made.Conn.{Conn}
 use Rattle.board_model.specs.declared.made.Leg.{Leg}
-use Rattle.board_model.specs.declared.made.Leg.TheVariants.{Wire, Via}
 use Rattle.board_parts.specs.declared.parts.BoardParts.{BoardParts}
 use Rattle.board_model.specs.Made.{conns_of, with_conn}
-use Rattle.board_model.specs.Shapes.{end_of, place_of, state_shapes}
-use Rattle.board_model.specs.WellFormed.{AreSteps, IsInLine, IsStep, IsWire, across, up}
+use Rattle.board_model.specs.Shapes.{end_of, state_shapes}
+use Rattle.board_model.specs.WellFormed.{AreSteps, up}
 use Rattle.route_law.specs.declared.replies.Made1.{Made1}
 use Rattle.route_law.specs.declared.replies.Routed.{Routed}
-use Rattle.route_law.specs.Connections.{IsStraight, steps_of, steps_of_leg, steps_of_legs}
+use Rattle.route_law.specs.Connections.{steps_of}
 use Rattle.route_law.specs.Ground.{Ground}
 use Rattle.route_law.specs.Joins.{IsConnection}
 use Rattle.route_law.specs.Kept.{IsState}
 use Rattle.route_law.specs.Routing.{AreMadeInTurn, IsNextConnection, IsRouted, conns_needed, next_targets}
 use Rattle.board_model.specs.Boxes.{source_boxes}
-use Rattle.route_law.specs.Walks.{HasNode, last_node}
-use Rattle.route_law.proofs.Joining.{last_node-append}
+use Rattle.route_law.specs.Walks.{HasNode}
 use Rattle.route_law.proofs.Law.{first_passable}
-use Rattle.route_law.proofs.Wires.{wire_end}
+use Rattle.route_law.proofs.Legs.{legs_end}
 use Rattle.replay_check.proofs.Alike.{connection_too, grounds_alike}
 use Rattle.session_core.specs.Adopting.{AreAdopted, AreWalksInTurn, IsFirstRefused, IsRefusedHere, bad, complete}
 use Rattle.session_core.specs.declared.adopts.Adopted.{Adopted}
@@ -38,24 +36,7 @@ use Rattle.auto_route.specs.States.{after_net, with_made}
 abbrev pub conns_in : List Made1 → List Conn
 conns_in ms = map (λ (m : Made1). m.conn) ms
 
-in_line : (v w : Node) → IsInLine (place_of v) (place_of w) → (w.x ≡ v.x) ⊎ (w.y ≡ v.y)
-in_line v w (across n e) = inr (sym e)
-in_line v w (up e n) = inl (sym e)
-
-straight_wire : (v w : Node) → IsWire v w → IsStraight v w
-straight_wire v w h = record { same_layer = sym h.layer; in_line = in_line v w h.line }
-
 module _ (b : BoardParts) (g : Ground) where
-  leg_end : (v : Node) (leg : Leg) → IsStep b v leg → last_node v (steps_of_leg v leg) ≡ end_of leg
-  leg_end v (Wire w) s = wire_end v w (straight_wire v w s.form)
-  leg_end v (Via k w) s = refl
-
-  legs_end : (v : Node) (legs : List Leg) → AreSteps b v legs → last_node v (steps_of_legs v legs) ≡ last_node v legs
-  legs_end v [] s = refl
-  legs_end v (leg ∷ legs) s =
-      let rest : List Leg = steps_of_legs (end_of leg) legs in
-      last_node-append v (steps_of_leg v leg) rest ∙ ap (λ (u : Node). last_node u rest) (leg_end v leg s.0) ∙ legs_end (end_of leg) legs s.1
-
   good_at : (v : Node) (legs : List Leg) (m : ℕ) (leg : Leg) → AreSteps b v legs → AreClear g v legs → slice_get legs m ≡ Some leg → IsGoodLeg b g (corner_after v legs m) leg
   good_at v [] m leg s h e = cc
   good_at v (x ∷ xs) zero leg s h e =
@@ -71,7 +52,7 @@ module _ (b : BoardParts) (g : Ground) where
       record {
         at_start = λ e. record { listed = h.walk.starts; passable = first_passable g conn.start (steps_of conn) h.walk.walk };
         of_leg = λ m leg e f. good_at conn.start conn.legs m leg steps clear f;
-        at_end = λ e. subst (λ (v : Node). HasNode targets v) (legs_end conn.start conn.legs steps) h.walk.ends;
+        at_end = λ e. subst (λ (v : Node). HasNode targets v) (legs_end b conn.start conn.legs steps) h.walk.ends;
         of_cost = λ e. h.cost;
       }
 

@@ -1,31 +1,25 @@
 -- In each state of a run, each connection of a net starts on what the net has before it, and ends on the
 -- net's next pin.
-use Rattle.std.proofs.Common.{ℕ, ◌≡◌, ◌+◌, ◌<◌, ◌≤◌, ◌≢◌, ◌⊎◌, inl, inr, List, [], ◌∷◌, ◌++◌, length, take, refl, ap, sym, ◌∙◌, subst, append-nil, append_assoc, arith}
+use Rattle.std.proofs.Common.{ℕ, ◌≡◌, ◌+◌, ◌<◌, ◌≤◌, ◌≢◌, ◌⊎◌, inl, inr, List, [], ◌∷◌, ◌++◌, length, take, sym, ◌∙◌, subst, append-nil, append_assoc, arith}
 use Rattle.std.specs.List.{flat_map}
 use Rattle.std.proofs.lemmas.Bool.{cases_eq, cases_lt}
 use Rattle.std.proofs.lemmas.List.{length-set, length-replicate, get_or-set_same, get_or-set_other, get_or-replicate, get_or_past}
 use Rattle.geo_rect.specs.declared.ids.NetId.{NetId}
-use Rattle.geo_rect.specs.declared.ids.Node.{Node}
 use Rattle.board_parts.specs.declared.commands.Command.{Command}
 use Rattle.board_parts.specs.declared.parts.BoardParts.{BoardParts}
 use Rattle.board_parts.specs.Lookup.{pins_of}
 use Rattle.board_model.specs.declared.made.Conn.{Conn}
-use Rattle.board_model.specs.declared.made.Leg.{Leg}
-use Rattle.board_model.specs.declared.made.Leg.TheVariants.{Wire, Via}
 use Rattle.board_model.specs.Boxes.{pin_boxes, conn_boxes, target_boxes}
 use Rattle.board_model.specs.Made.{conns_of, with_conn, without_conns}
-use Rattle.board_model.specs.Shapes.{place_of, end_of}
-use Rattle.board_model.specs.WellFormed.{IsInLine, across, up, IsWire, IsStep, AreSteps, IsWellFormed}
+use Rattle.board_model.specs.WellFormed.{IsWellFormed}
 use Rattle.route_law.specs.declared.replies.Made1.{Made1}
 use Rattle.route_law.specs.declared.replies.Reply.{Reply}
 use Rattle.route_law.specs.declared.replies.Reply.TheVariants as reply
 use Rattle.route_law.specs.declared.replies.Routed.{Routed}
-use Rattle.route_law.specs.Connections.{steps_of_leg, steps_of_legs, IsStraight}
 use Rattle.route_law.specs.Routing.{IsNextConnection, AreMadeInTurn, AreRoutedFrom}
 use Rattle.route_law.specs.Steps.{IsAnswer, IsRunFrom, nothing_made}
 use Rattle.route_law.specs.Walks.{HasNode, last_node}
-use Rattle.route_law.proofs.Joining.{last_node-append}
-use Rattle.route_law.proofs.Wires.{wire_end}
+use Rattle.route_law.proofs.Legs.{legs_end}
 use Rattle.net_trace.proofs.Grouped.{net_same}
 
 -- the connection starts on one of the net's first pins, one more than it has connections before this, or on one
@@ -46,32 +40,13 @@ attached-push b n before (d ∷ cs) c h a =
     let moved : IsAttached b n ((before ++ d ∷ []) ++ cs) c = subst (λ (xs : List Conn). IsAttached b n xs c) (sym (append_assoc before (d ∷ []) cs)) a in
     (h.0, attached-push b n (before ++ d ∷ []) cs c h.1 moved)
 
--- the steps of a connection end where its legs do
-in_line : (v w : Node) → IsInLine (place_of v) (place_of w) → (w.x ≡ v.x) ⊎ (w.y ≡ v.y)
-in_line v w (across n e) = inr (sym e)
-in_line v w (up e n) = inl (sym e)
-
-straight_wire : (v w : Node) → IsWire v w → IsStraight v w
-straight_wire v w h = record { same_layer = sym h.layer; in_line = in_line v w h.line }
-
-leg_end : (b : BoardParts) (v : Node) (leg : Leg) → IsStep b v leg → last_node v (steps_of_leg v leg) ≡ end_of leg
-leg_end b v (Wire w) s = wire_end v w (straight_wire v w s.form)
-leg_end b v (Via k w) s = refl
-
-steps_end : (b : BoardParts) (v : Node) (legs : List Leg) → AreSteps b v legs → last_node v (steps_of_legs v legs) ≡ last_node v legs
-steps_end b v [] s = refl
-steps_end b v (leg ∷ legs) s =
-    last_node-append v (steps_of_leg v leg) (steps_of_legs (end_of leg) legs)
-    ∙ ap (λ (u : Node). last_node u (steps_of_legs (end_of leg) legs)) (leg_end b v leg s.0)
-    ∙ steps_end b (end_of leg) legs s.1
-
 next_attached : (b : BoardParts) (lists : List (List Conn)) (n : NetId) (m : Made1) → IsNextConnection b lists n m → IsAttached b n (conns_of lists n) m.conn
 next_attached b lists n m next =
     let c = next.least.connection in
     record {
       well_formed = c.well_formed;
       starts = c.walk.starts;
-      ends = subst (HasNode (target_boxes b n (length (conns_of lists n) + 1))) (steps_end b m.conn.start m.conn.legs c.well_formed.steps) c.walk.ends;
+      ends = subst (HasNode (target_boxes b n (length (conns_of lists n) + 1))) (legs_end b m.conn.start m.conn.legs c.well_formed.steps) c.walk.ends;
     }
 
 module _ (b : BoardParts) where

@@ -8,6 +8,7 @@ pub mod Doors
 pub mod Ends
 pub mod Joining
 pub mod Law
+pub mod Legs
 pub mod Lows
 pub mod Numbered
 pub mod OnBoards

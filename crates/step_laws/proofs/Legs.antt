@@ -1,6 +1,6 @@
 -- What a connection keeps of the rules, and that it keeps off the keep-outs: each point of its walk is left
 -- to the net.
-use Rattle.std.proofs.Common.{ℤ, pos, ◌≡◌, ◌<◌, ◌+◌, ◌-◌, ◌≤ℤ◌, ◌⊎◌, inl, inr, List, [], ◌∷◌, ◌++◌, length, Option, Some, None, All, refl, sym, subst, arith}
+use Rattle.std.proofs.Common.{ℤ, pos, ◌<◌, ◌+◌, ◌-◌, ◌≤ℤ◌, List, [], ◌∷◌, length, Option, Some, None, All, sym, subst, arith}
 use Rattle.std.proofs.lemmas.List.Elements.{All-nil, All-cons, All-append, All-map, All-weaker, All-contains}
 use Rattle.std.proofs.lemmas.List.FromFn.{length-range_with_len, get_or-range_with_len}
 use Rattle.geo_rect.specs.declared.ids.ClassId.{ClassId}
@@ -22,20 +22,20 @@ use Rattle.board_parts.specs.Rules.{IsBoard, IsRule}
 use Rattle.board_model.specs.Segments.{segment}
 use Rattle.board_model.specs.Shapes.{place_of, end_of, net_shape, via_shape, leg_shapes, legs_shapes}
 use Rattle.board_parts.specs.Gaps.{gap_to}
-use Rattle.board_model.specs.WellFormed.{IsInLine, across, up, IsWire, IsStep, AreSteps}
+use Rattle.board_model.specs.WellFormed.{IsStep, AreSteps}
 use Rattle.board_model.proofs.LabelHits.{wire_hits, via_hits, wire_shuts, via_shuts}
 use Rattle.board_model.proofs.LabelLaws.{admits_is_left}
 use Rattle.board_model.proofs.MadeShapes.{rule_is, gap_is}
 use Rattle.board_model.proofs.OwnersGap.{class_known}
 use Rattle.board_model.proofs.SquareFits.{squares_fit}
 use Rattle.route_law.specs.Boards.{IsGroundOf}
-use Rattle.route_law.specs.Connections.{steps_of_leg, steps_of_legs, IsStraight}
+use Rattle.route_law.specs.Connections.{steps_of_leg, steps_of_legs}
 use Rattle.route_law.specs.Ground.{Ground, IsPassableNode, IsPassableVia}
 use Rattle.route_law.specs.Kept.{KeepsRules, LegKeepsOff, LegsKeepOff}
-use Rattle.route_law.specs.Walks.{IsWalk, last_node}
+use Rattle.route_law.specs.Walks.{IsWalk}
 use Rattle.route_law.proofs.Law.{first_passable}
+use Rattle.route_law.proofs.Legs.{straight_wire, leg_end, walk_parts}
 use Rattle.route_law.proofs.OnBoards.{passable_nodes, passable_vias}
-use Rattle.route_law.proofs.Wires.{wire_end}
 use Rattle.walk_check.specs.Clear.{node_at, IsClearWire, IsClearLeg}
 use Rattle.walk_check.proofs.Lines.{line_first}
 use Rattle.walk_check.proofs.Units.{walk_clear}
@@ -46,26 +46,10 @@ abbrev pub AreClear : Ground → Node → List Leg → Type 0
 AreClear g v [] = Unit {0}
 AreClear g v (leg ∷ legs) = IsClearLeg g v leg × IsPassableNode g (end_of leg) × AreClear g (end_of leg) legs
 
-in_line : (v w : Node) → IsInLine (place_of v) (place_of w) → (w.x ≡ v.x) ⊎ (w.y ≡ v.y)
-in_line v w (across n e) = inr (sym e)
-in_line v w (up e n) = inl (sym e)
-
-straight_wire : (v w : Node) → IsWire v w → IsStraight v w
-straight_wire v w h = record { same_layer = sym h.layer; in_line = in_line v w h.line }
-
-walk_parts : (g : Ground) (v : Node) (first second : List Leg) → IsWalk g v (first ++ second) → IsWalk g v first × IsWalk g (last_node v first) second
-walk_parts g v [] [] h = (h, h)
-walk_parts g v [] (leg ∷ legs) h = (h.0, h)
-walk_parts g v (leg ∷ legs) second h = let k = walk_parts g (end_of leg) legs second h.2 in ((h.0, h.1, k.0), k.1)
-
 module _ (b : BoardParts) (g : Ground) where
   leg_clear : (v : Node) (leg : Leg) → IsStep b v leg → IsWalk g v (steps_of_leg v leg) → IsClearLeg g v leg
   leg_clear v (Wire w) s walk = walk_clear g v w (straight_wire v w s.form) walk
   leg_clear v (Via k w) s walk = let P : Point → Type 0 = λ q. IsPassableVia g k q in record { via = subst P s.form.place walk.1.passable; end = walk.2 }
-
-  leg_end : (v : Node) (leg : Leg) → IsStep b v leg → last_node v (steps_of_leg v leg) ≡ end_of leg
-  leg_end v (Wire w) s = wire_end v w (straight_wire v w s.form)
-  leg_end v (Via k w) s = refl
 
   -- the legs of a walk are clear
   pub legs_clear : (v : Node) (legs : List Leg) → AreSteps b v legs → IsWalk g v (steps_of_legs v legs) → AreClear g v legs
@@ -73,7 +57,7 @@ module _ (b : BoardParts) (g : Ground) where
   legs_clear v (leg ∷ legs) s walk =
       let second : List Leg = steps_of_legs (end_of leg) legs in
       let parts = walk_parts g v (steps_of_leg v leg) second walk in
-      let rest : IsWalk g (end_of leg) second = subst (λ (u : Node). IsWalk g u second) (leg_end v leg s.0) parts.1 in
+      let rest : IsWalk g (end_of leg) second = subst (λ (u : Node). IsWalk g u second) (leg_end b v leg s.0) parts.1 in
       (leg_clear v leg s.0 parts.0, first_passable g (end_of leg) second rest, legs_clear (end_of leg) legs s.1 rest)
 
 -- a gap that a class keeps is no less than 1

@@ -15,10 +15,11 @@ use Rattle.route_law.specs.Connections.{steps_of}
 use Rattle.route_law.specs.Ground.{Ground}
 use Rattle.route_law.specs.Walks.{HasNode, last_node, walk_cost}
 use Rattle.route_law.proofs.Law.{first_passable}
+use Rattle.route_law.proofs.Legs.{legs_end}
 use Rattle.strip_moves.specs.Grounds.{ground_of}
 use Rattle.walk_check.specs.Corners.{corner_after, HasPlaces, IsGoodStart, IsGoodLeg, IsGoodCorner, IsFirstBadCorner, AreGoodLegs, IsFirstBadLeg, HasKind}
 use Rattle.route_law.specs.Joins.{IsConnection}
-use Rattle.walk_check.proofs.GoodLegs.{passable_corner, AreGood, good_steps, legs_end, legs_walk, legs_good, good_at, good_from}
+use Rattle.walk_check.proofs.GoodLegs.{passable_corner, AreGood, good_steps, legs_walk, legs_good, good_at, good_from}
 
 -- what is said of no value holds where no value is the one
 pub if_none : (o : Option ℕ) (P : Type 0) → ((k : ℕ) → o ≡ Some k → ⊥) → IfNone o P → P
@@ -42,7 +43,7 @@ module _ (b : BoardParts) (set : PlaneTable) (n : NetId) (sources targets : List
       record {
         at_start = λ e. record { listed = h.walk.starts; passable = first_passable g conn.start (steps_of conn) h.walk.walk };
         of_leg = λ m leg e f. good_at b set n conn.start conn.legs m leg good f;
-        at_end = λ e. subst (λ (v : Node). HasNode targets v) (legs_end b set n conn.start conn.legs steps) h.walk.ends;
+        at_end = λ e. subst (λ (v : Node). HasNode targets v) (legs_end b conn.start conn.legs steps) h.walk.ends;
         of_cost = λ e. h.cost;
       }
 
@@ -55,7 +56,7 @@ module _ (b : BoardParts) (set : PlaneTable) (n : NetId) (sources targets : List
         walk = record {
           starts = start.listed;
           walk = legs_walk b set n conn.start conn.legs start.passable good;
-          ends = subst (λ (v : Node). HasNode targets v) (sym (legs_end b set n conn.start conn.legs steps)) ends;
+          ends = subst (λ (v : Node). HasNode targets v) (sym (legs_end b conn.start conn.legs steps)) ends;
         };
         cost = cost;
       }

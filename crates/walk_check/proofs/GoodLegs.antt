@@ -1,5 +1,5 @@
 -- Good legs are a walk, and the legs of a walk are good.
-use Rattle.std.proofs.Common.{ℤ, ℕ, zero, suc, ◌≡◌, List, [], ◌∷◌, ◌++◌, ◌⊎◌, inl, inr, Some, refl, sym, ◌∙◌, ap, subst, arith}
+use Rattle.std.proofs.Common.{ℤ, ℕ, zero, suc, ◌≡◌, List, [], ◌∷◌, Some, refl, sym, subst, arith}
 use Rattle.std.specs.Prelude.{slice_get, ⊤}
 use Rattle.std.proofs.lemmas.Int.{ints}
 use Rattle.std.proofs.lemmas.Option.{same_Some}
@@ -12,34 +12,22 @@ use Rattle.board_model.specs.declared.made.Leg.TheVariants.{Wire, Via}
 use Rattle.board_parts.specs.declared.parts.BoardParts.{BoardParts}
 use Rattle.board_parts.specs.Rules.{IsBoard, IsSide}
 use Rattle.board_model.specs.Shapes.{place_of, end_of}
-use Rattle.board_model.specs.WellFormed.{IsCoordinate, IsCorner, IsInLine, across, up, IsWire, HasForm, IsStep, AreSteps}
+use Rattle.board_model.specs.WellFormed.{IsCoordinate, IsCorner, across, up, HasForm, IsStep, AreSteps}
 use Rattle.plane_set.specs.Standing.{PlaneTable}
-use Rattle.route_law.specs.Connections.{steps_of_leg, steps_of_legs, IsStraight}
+use Rattle.route_law.specs.Connections.{steps_of_leg, steps_of_legs}
 use Rattle.route_law.specs.Ground.{Ground, IsPassableNode, IsPassableVia}
 use Rattle.route_law.specs.Walks.{IsWalk, last_node}
-use Rattle.route_law.proofs.Joining.{walk-append, last_node-append}
-use Rattle.route_law.proofs.Wires.{wire_end}
+use Rattle.route_law.proofs.Joining.{walk-append}
+use Rattle.route_law.proofs.Legs.{straight_wire, leg_end, walk_parts}
 use Rattle.strip_moves.specs.Grounds.{ground_of, upto}
 use Rattle.walk_check.specs.Clear.{IsClearLeg}
 use Rattle.walk_check.specs.Corners.{corner_after, IsGoodLeg}
 use Rattle.walk_check.proofs.Lines.{line_last}
 use Rattle.walk_check.proofs.Units.{clear_walk, walk_clear}
 
-in_line : (v w : Node) → IsInLine (place_of v) (place_of w) → (w.x ≡ v.x) ⊎ (w.y ≡ v.y)
-in_line v w (across n e) = inr (sym e)
-in_line v w (up e n) = inl (sym e)
-
-straight_wire : (v w : Node) → IsWire v w → IsStraight v w
-straight_wire v w h = record { same_layer = sym h.layer; in_line = in_line v w h.line }
-
 -- a number of a side of the board is a coordinate that a corner may have
 side_place : (n v : ℤ) → IsSide n → HasNumber (upto n) v → IsCoordinate v
 side_place n v side h = let f = h.from in let t = h.to in let most = side.to in record { from = omega (arith, ints); to = omega (arith, ints) }
-
-walk_parts : (g : Ground) (v : Node) (first second : List Leg) → IsWalk g v (first ++ second) → IsWalk g v first × IsWalk g (last_node v first) second
-walk_parts g v [] [] h = (h, h)
-walk_parts g v [] (leg ∷ legs) h = (h.0, h)
-walk_parts g v (leg ∷ legs) second h = let k = walk_parts g (end_of leg) legs second h.2 in ((h.0, h.1, k.0), k.1)
 
 last_passable : (g : Ground) (v : Node) (steps : List Leg) → IsWalk g v steps → IsPassableNode g (last_node v steps)
 last_passable g v [] h = h
@@ -85,10 +73,6 @@ module _ (b : BoardParts) (set : PlaneTable) (n : NetId) where
   leg_clear v (Wire w) s walk = walk_clear g v w (straight_wire v w s.form) walk
   leg_clear v (Via k w) s walk = let P : Point → Type 0 = λ q. IsPassableVia g k q in record { via = subst P s.form.place walk.1.passable; end = walk.2 }
 
-  leg_end : (v : Node) (leg : Leg) → IsStep b v leg → last_node v (steps_of_leg v leg) ≡ end_of leg
-  leg_end v (Wire w) s = wire_end v w (straight_wire v w s.form)
-  leg_end v (Via k w) s = refl
-
   -- each of the legs is good, the first from v
   abbrev pub AreGood : Node → List Leg → Type 0
   AreGood v [] = ⊤
@@ -98,19 +82,13 @@ module _ (b : BoardParts) (set : PlaneTable) (n : NetId) where
   good_steps v [] h = tt
   good_steps v (leg ∷ legs) h = (h.0.step, good_steps (end_of leg) legs h.1)
 
-  pub legs_end : (v : Node) (legs : List Leg) → AreSteps b v legs → last_node v (steps_of_legs v legs) ≡ last_node v legs
-  legs_end v [] s = refl
-  legs_end v (leg ∷ legs) s =
-      last_node-append v (steps_of_leg v leg) (steps_of_legs (end_of leg) legs) ∙ ap (λ (u : Node). last_node u (steps_of_legs (end_of leg) legs)) (leg_end v leg s.0)
-      ∙ legs_end (end_of leg) legs s.1
-
   pub legs_walk : (v : Node) (legs : List Leg) → IsPassableNode g v → AreGood v legs → IsWalk g v (steps_of_legs v legs)
   legs_walk v [] p h = p
   legs_walk v (leg ∷ legs) p h =
       let first : List Leg = steps_of_leg v leg in
       let second : List Leg = steps_of_legs (end_of leg) legs in
       let walk : IsWalk g v first = leg_walk v leg p h.0 in
-      let ends : last_node v first ≡ end_of leg = leg_end v leg h.0.step in
+      let ends : last_node v first ≡ end_of leg = leg_end b v leg h.0.step in
       let here : IsPassableNode g (end_of leg) = subst (λ (u : Node). IsPassableNode g u) ends (last_passable g v first walk) in
       walk-append g v first second walk (subst (λ (u : Node). IsWalk g u second) (sym ends) (legs_walk (end_of leg) legs here h.1))
 
@@ -121,7 +99,7 @@ module _ (b : BoardParts) (set : PlaneTable) (n : NetId) where
       let second : List Leg = steps_of_legs (end_of leg) legs in
       let parts = walk_parts g v first second walk in (
         record { step = s.0; clear = leg_clear v leg s.0 parts.0 },
-        legs_good (end_of leg) legs s.1 (subst (λ (u : Node). IsWalk g u second) (leg_end v leg s.0) parts.1),
+        legs_good (end_of leg) legs s.1 (subst (λ (u : Node). IsWalk g u second) (leg_end b v leg s.0) parts.1),
       )
 
   pub good_at : (v : Node) (legs : List Leg) (m : ℕ) (leg : Leg) → AreGood v legs → slice_get legs m ≡ Some leg → IsGoodLeg b g (corner_after v legs m) leg

@@ -20,7 +20,7 @@ use Rattle.route_law.specs.Walks.{HasNode}
 use Rattle.route_law.proofs.Law.{first_passable}
 use Rattle.step_laws.proofs.Legs.{AreClear, legs_clear}
 use Rattle.walk_check.specs.Corners.{corner_after, IsGoodLeg, IsGoodCorner}
-use Rattle.walk_check.proofs.GoodLegs.{legs_end}
+use Rattle.route_law.proofs.Legs.{legs_end}
 use Rattle.replay_check.proofs.Alike.{grounds_alike, connection_too}
 use Rattle.session_core.specs.Adopting.{IsNextWalk, IsRefusedHere, complete, bad}
 
@@ -41,7 +41,7 @@ corners_good b g sources targets n conn k h =
     record {
       at_start = λ e. record { listed = h.walk.starts; passable = first_passable g conn.start (steps_of conn) h.walk.walk };
       of_leg = λ m leg e f. good_at b g conn.start conn.legs m leg steps (legs_clear b g conn.start conn.legs steps h.walk.walk) f;
-      at_end = λ e. subst ends (legs_end b none n conn.start conn.legs steps) h.walk.ends;
+      at_end = λ e. subst ends (legs_end b conn.start conn.legs steps) h.walk.ends;
       of_cost = λ e. h.cost;
     }
 
