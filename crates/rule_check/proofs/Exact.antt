@@ -1,5 +1,5 @@
 -- The violations of a list of shapes are its pairs that are too close and its shapes that leave the board.
-use Rattle.std.proofs.Common.{◌≡◌, ◌≢◌, ℕ, zero, suc, ◌+◌, ◌<◌, Bool, true, false, not, ◌&&◌, ◌==◌, List, [], ◌∷◌, ◌++◌, map, filter, slice_get, Option, Some, None, Contains, Decides, if◌then◌else◌, ◌⊎◌, inl, inr, refl, sym, ap, ◌∙◌, subst, arith}
+use Rattle.std.proofs.Common.{◌≡◌, ◌≢◌, ℕ, zero, suc, ◌<◌, Bool, true, false, ◌==◌, List, [], ◌∷◌, ◌++◌, filter, slice_get, Option, Some, None, Contains, Decides, if◌then◌else◌, ◌⊎◌, inl, inr, refl, sym, ap, ◌∙◌, subst, arith}
 use Rattle.std.proofs.lemmas.Bool.{false≢true}
 use Rattle.std.proofs.lemmas.Bool.Decides.{Decides-like, Decides-and, Decides-not, Decides-eqb, not_from_Decides}
 use Rattle.std.proofs.lemmas.List.Elements.{Contains-append_left, Contains-append_right, Contains-append_cases}
@@ -33,12 +33,12 @@ same_owner (Some m) None = (λ e. absurd (false≢true e), λ (e : Some m ≡ No
 same_owner (Some m) (Some n) = Decides-like (m.0 == n.0) (λ e. ap Some e) (λ (e : Some m ≡ Some n). cc) (same_net m n)
 
 -- what the test of two shapes says
-record IsBreak (b : BoardParts) (s t : Shape) : Type 0 where
-  layer : s.layer ≡ t.layer
-  owners : s.owner ≢ t.owner
-  close : IsTooClose s.area t.area (gap_between b s.layer s.owner t.owner)
+pub record IsBreak (b : BoardParts) (s t : Shape) : Type 0 where
+  pub layer : s.layer ≡ t.layer
+  pub owners : s.owner ≢ t.owner
+  pub close : IsTooClose s.area t.area (gap_between b s.layer s.owner t.owner)
 
-Decides-breaks_gap : (b : BoardParts) (s t : Shape) → Decides (breaks_gap b s t) (IsBreak b s t)
+pub Decides-breaks_gap : (b : BoardParts) (s t : Shape) → Decides (breaks_gap b s t) (IsBreak b s t)
 Decides-breaks_gap b s t =
     Decides-like (breaks_gap b s t) (λ h. record { layer = h.0.0; owners = h.0.1; close = h.1 }) (λ h. ((h.layer, h.owners), h.close))
     (Decides-and _ _

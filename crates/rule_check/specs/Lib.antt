@@ -1,2 +1,5 @@
+pub mod Bounds
+pub mod Hulls
 pub mod Known
 pub mod Meaning
+pub mod Runs

@@ -6,9 +6,11 @@ ghost use Rattle.board_model.specs.Shapes.{state_shapes};
 ghost use Rattle.board_model.specs.Violations.{violations_of};
 ghost use Rattle.board_model.specs.WellFormed.{AreWellFormed};
 ghost use Rattle.rule_check.specs.Known.{NamesKnown};
+ghost use Rattle.rule_check.specs.Runs.{AreRunsOf};
 
+use crate::later::push_later;
 use crate::outlines::push_outline;
-use crate::pairs::push_close;
+use crate::runs::Runs;
 use board_model::{Board, Made, Shape, Violation, all_shapes};
 use geo_rect::{List, NoMemory};
 use std::alloc::Global;
@@ -23,8 +25,9 @@ pub fn violations(alloc: Global, board: &Board, made: &Made) -> Result<List<Viol
     ensures known { IfOk result (λ found. All (NamesKnown board.now.parts) found) }
 {
     let shapes = all_shapes(alloc, board, made)?;
+    let runs = Runs::of(alloc, board, shapes.as_slice())?;
     let mut found = List::new(alloc);
-    push_violations(&mut found, board, shapes.as_slice())?;
+    push_violations(&mut found, board, shapes.as_slice(), &runs)?;
     Ok(found)
 }
 
@@ -33,13 +36,15 @@ fn push_violations(
     found: &mut List<Violation>,
     board: &Board,
     shapes: &[Shape],
+    runs: &Runs,
 ) -> Result<(), NoMemory>
-    requires { All (IsKnown board.now.parts) shapes.now }
+    requires known { All (IsKnown board.now.parts) shapes.now }
+    requires runs { AreRunsOf board.now.parts shapes.now runs.now }
     ensures { OnOk result (found.new ≡ found.old ++ violations_of board.now.parts shapes.now) }
 {
     for i in 0..shapes.len() {
         push_outline(found, board, shapes[i])?;
-        push_close(found, board, shapes[i], &shapes[i + 1..])?;
+        push_later(found, board, shapes, runs, shapes[i], i + 1)?;
     }
     Ok(())
 }

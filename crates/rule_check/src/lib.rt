@@ -1,10 +1,14 @@
 //! The violations of a board's rules: shapes that are too close, and shapes that leave the board.
 #![tactic(auto)]
 
+mod bounds;
 mod checks;
+mod hulls;
+mod later;
 mod meaning;
 mod outlines;
 mod pairs;
+mod runs;
 #[cfg(test)]
 mod tests;
 

@@ -40,9 +40,9 @@ fn fill(
     Ok(())
 }
 
-/// 40 by 20, with these blockages and pins.
+/// 600 by 20, with these blockages and pins.
 fn small_board(alloc: Global, blocks: &[Block], pins: &[Pin]) -> Result<BoardParts, NoMemory> {
-    let mut parts = BoardParts::new(alloc, "small", 40, 20)?;
+    let mut parts = BoardParts::new(alloc, "small", 600, 20)?;
     fill(alloc, &mut parts, blocks, pins)?;
     Ok(parts)
 }
@@ -118,6 +118,25 @@ fn two_pins_alone(rt: HostRuntime) -> Result<(), Fail> {
     let b = pin(1, 20, 9);
     let list = found(&rt, rt.alloc(), &[], &[a, b, pin(1, 30, 9)])?;
     let expected = [Violation::Close(TOP, named(a), named(b))];
+    assert_eq!(rt; list.as_slice(), expected.as_slice());
+    Ok(())
+}
+
+/// 127 pins of net a in a row, and one of net b beside the third of them.
+fn row(alloc: Global) -> Result<List<Pin>, NoMemory> {
+    let mut pins = List::new(alloc);
+    for i in 0..127_u8 {
+        pins.push(pin(0, 4 * i32::from(i), 5))?;
+    }
+    pins.push(pin(1, 9, 5))?;
+    Ok(pins)
+}
+
+#[test]
+fn past_many_pins(rt: HostRuntime) -> Result<(), Fail> {
+    let pins = row(rt.alloc())?;
+    let list = found(&rt, rt.alloc(), &[], pins.as_slice())?;
+    let expected = [Violation::Close(TOP, named(pin(0, 8, 5)), named(pin(1, 9, 5)))];
     assert_eq!(rt; list.as_slice(), expected.as_slice());
     Ok(())
 }

@@ -1,8 +1,7 @@
-use Rattle.std.proofs.Common.{◌≡◌, ◌==◌, Bool, true, false, not, ◌&&◌, ap, sym, subst, ◌∙◌, arith, eq-eqb}
+use Rattle.std.proofs.Common.{◌≡◌, ◌==◌, Bool, true, false, not, ◌&&◌, ap, sym, ◌∙◌, arith, eq-eqb}
 use Rattle.std.proofs.lemmas.Int.{ints}
 use Rattle.geo_rect.specs.Tests.{are_too_close}
 use Rattle.board_model.specs.Spacing.{is_same_owner}
-use Rattle.board_parts.specs.Gaps.{gap_between}
 use Rattle.rule_check.proofs.pairs.breaks_gap.Goals as goal
 
 -- the last test alone decides, where the others say that a gap is kept
