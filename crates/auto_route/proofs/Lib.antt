@@ -1,4 +1,5 @@
 pub mod Ordering
+pub mod Permuting
 pub mod Playing
 pub mod Ranking
 pub mod Refusing

@@ -1,5 +1,5 @@
 -- Rounds: in each, every net is routed once, in an order that the round before gives.
-use Rattle.std.specs.Prelude.{◌≡◌, ◌∷◌, ◌++◌, Bool, not, nat_le, List, [], length, map, filter, ⊤}
+use Rattle.std.specs.Prelude.{◌≡◌, ◌∷◌, ◌++◌, Bool, not, nat_le, List, [], length, map, filter, ⊤, IsPermutation}
 use Rattle.std.specs.List.{range_with_len}
 use Rattle.geo_rect.specs.declared.ids.NetId.{NetId}
 use Rattle.board_model.specs.declared.made.Conn.{Conn}
@@ -53,3 +53,7 @@ AreRoundsFrom b order (round ∷ rounds) = IsRound b order round × AreRoundsFro
 -- these are rounds, of which the first has the nets in the order of the text
 abbrev pub AreRounds : BoardParts → List (List Routed) → Type 0
 AreRounds b rounds = AreRoundsFrom b (text_order b) rounds
+
+-- the nets that were routed are the nets of the board, each once, in some order
+abbrev pub RoutesEachNetOnce : BoardParts → List Routed → Type 0
+RoutesEachNetOnce b round = IsPermutation (text_order b) (order_of round)

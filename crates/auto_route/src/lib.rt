@@ -6,6 +6,7 @@
 
 mod autos;
 mod given_back;
+mod laws;
 mod orders;
 mod plays;
 mod ranks;
@@ -15,4 +16,5 @@ pub mod told;
 mod tours;
 
 pub use autos::auto;
+pub use laws::each_round_routes_every_net_once;
 pub use texts::auto_text;

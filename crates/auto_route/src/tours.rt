@@ -1,6 +1,6 @@
 //! Rounds, one after another, and which of them is the best so far.
 
-ghost use Rattle.std.specs.Prelude.{◌≡◌, ◌+◌, ◌^◌, ◌<◌, ◌≤◌, [], length, All, IfOk, OnOk};
+ghost use Rattle.std.specs.Prelude.{◌≡◌, ◌+◌, ◌^◌, ◌<◌, ◌≤◌, ◌++◌, ◌∷◌, [], length, All, IfOk, OnOk};
 ghost use Rattle.route_law.specs.Regular.{IsRegularRouted};
 ghost use Rattle.auto_route.specs.Best.{IsBestRound};
 ghost use Rattle.auto_route.specs.Rounds.{AreRounds, IsRound};
@@ -60,6 +60,7 @@ impl Tour {
         requires regular { All (IsRegularRouted board.now.parts) round }
         requires made { made.now.lists ≡ last_state board.now.parts round }
         ensures tour { OnOk result (IsTour board.now.parts self.new) }
+        ensures added { OnOk result (self.new.rounds ≡ self.old.rounds ++ round ∷ []) }
         ensures count { OnOk result (length self.new.rounds ≡ length self.old.rounds + 1) }
     {
         let rank = rank_of(board, made, round.as_slice());

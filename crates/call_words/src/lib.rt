@@ -11,6 +11,8 @@ mod parts;
 mod plans;
 mod requests;
 mod subjects;
+#[cfg(test)]
+mod tests;
 mod verbs;
 
 pub use asking::request_of;

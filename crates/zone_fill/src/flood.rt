@@ -58,6 +58,7 @@ impl Flood {
         requires bounded { All IsBounded parts.now }
         requires flood { IsFlood parts.now IsNoPair self.old.marks.items self.old.front.items }
         ensures flood { OnOk result (IsFlood parts.now IsNoPair self.new.marks.items []) }
+        ensures empty { OnOk result (self.new.front.items ≡ []) }
         ensures stay { OnOk result (StayMarked self.old.marks.items self.new.marks.items) }
         ensures sound { OnOk result (StayFlooded parts.now self.old.marks.items self.new.marks.items) }
     {
