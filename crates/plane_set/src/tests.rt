@@ -1,16 +1,13 @@
-ghost use Rattle.std.specs.Prelude.{IfOk, IsSome, IsTrue};
+ghost use Rattle.std.specs.Prelude.{IsTrue};
 ghost use Rattle.geo_rect.specs.Plane.{HasPoint};
-ghost use Rattle.board_model.specs.Known.{IsKnown, IsNearOrigin};
 ghost use Rattle.grow_rules.specs.Frames.{IsBoardPoint};
 ghost use Rattle.plane_set.specs.Standing.{HasPlanes};
 
 use crate::PlaneSet;
-use board_model::{
-    Block, Board, BoardParts, Keepout, Made, Pin, Rule, Shape, ViaKind, all_shapes, is_board,
-};
+use board_model::{Block, Board, BoardParts, Keepout, Pin, Rule, ViaKind, is_board};
 use flat_plane::FlatPlane;
 use geo_rect::{ClassId, KindId, Label, LayerId, NetId, NoMemory, Node, Point, Rect, Text};
-use plane_core::{Plane, Strips};
+use plane_core::Plane;
 use std::alloc::Global;
 use std::process::Abort;
 use std::test::Fail;
@@ -102,46 +99,6 @@ fn wall() -> Rect {
     Rect::new(18, 0, 22, 14)
 }
 
-fn left() -> Rect {
-    Rect::new(4, 9, 6, 11)
-}
-
-fn right() -> Rect {
-    Rect::new(34, 9, 36, 11)
-}
-
-/// A shape on the first layer, of the first net or of none.
-fn shape_of(rt: &impl Abort, board: &Board, area: Rect, is_owned: bool) -> Shape
-    ensures known { IsKnown board.now.parts result }
-    ensures owned { IsTrue is_owned → IsSome result.owner }
-{
-    assert!(rt; board.layers() > 0);
-    assert!(rt; board.nets() > 0);
-    assert!(rt; is_small(area));
-    let layer = LayerId(0);
-    if is_owned {
-        let owner = Some(NetId(0));
-        return Shape { area, layer, owner };
-    }
-    let owner = None;
-    Shape { area, layer, owner }
-}
-
-fn is_small(area: Rect) -> bool
-    ensures { IsTrue result → IsNearOrigin area }
-{
-    if area.x0 < 0 {
-        return false;
-    }
-    if area.y0 < 0 {
-        return false;
-    }
-    if area.x1 > 100 {
-        return false;
-    }
-    area.y1 <= 100
-}
-
 fn has_point(r: Rect, p: Point) -> bool
     ensures { IsTrue result → HasPoint r p }
 {
@@ -155,89 +112,6 @@ fn has_point(r: Rect, p: Point) -> bool
         return false;
     }
     p.y <= r.y1
-}
-
-/// The strips of the plane of wires on the first layer.
-fn wire_strips<P: Plane>(
-    rt: &impl Abort,
-    alloc: Global,
-    board: &Board,
-    set: &PlaneSet<P>,
-) -> Result<Strips, NoMemory>
-    requires { HasPlanes board.now.parts set.now }
-{
-    assert!(rt; board.layers() > 0);
-    assert!(rt; board.classes() > 0);
-    let plane = set.wire(LayerId(0), ClassId(0));
-    let domain = plane.domain();
-    plane.strips_in(alloc, domain)
-}
-
-/// The planes of the board that has the wall and the pins.
-fn built_strips<P: Plane>(rt: &impl Abort, alloc: Global) -> Result<Strips, NoMemory> {
-    let pins = [pin(left(), 0), pin(right(), 0)];
-    let parts = parts_of(alloc, 40, 20, &[block(wall())], &pins)?;
-    let board = board_of(rt, alloc, parts)?;
-    let set: PlaneSet<P> = PlaneSet::build(alloc, &board)?;
-    wire_strips(rt, alloc, &board, &set)
-}
-
-/// The planes of the bare board with the pins and the wall, one by one in another order.
-fn added_strips<P: Plane>(rt: &impl Abort, alloc: Global) -> Result<Strips, NoMemory> {
-    let parts = parts_of(alloc, 40, 20, &[], &[])?;
-    let board = board_of(rt, alloc, parts)?;
-    let set: PlaneSet<P> = PlaneSet::build(alloc, &board)?;
-    let set = set.add(alloc, &board, &shape_of(rt, &board, right(), true))?;
-    let set = set.add(alloc, &board, &shape_of(rt, &board, wall(), false))?;
-    let set = set.add(alloc, &board, &shape_of(rt, &board, left(), true))?;
-    wire_strips(rt, alloc, &board, &set)
-}
-
-/// The planes of the board that has the wall and the pins, where a wire of the net between them came
-/// and went.
-fn rested_strips<P: Plane>(rt: &impl Abort, alloc: Global) -> Result<Strips, NoMemory> {
-    let pins = [pin(left(), 0), pin(right(), 0)];
-    let parts = parts_of(alloc, 40, 20, &[block(wall())], &pins)?;
-    let board = board_of(rt, alloc, parts)?;
-    let wire = shape_of(rt, &board, Rect::new(4, 9, 36, 11), true);
-    let set: PlaneSet<P> = PlaneSet::build(alloc, &board)?;
-    let set = set.add(alloc, &board, &wire)?;
-    let set = without(alloc, &board, set, &wire)?;
-    wire_strips(rt, alloc, &board, &set)
-}
-
-/// The planes with the labels near the shape made again over the shapes of the board.
-fn without<P: Plane>(
-    alloc: Global,
-    board: &Board,
-    set: PlaneSet<P>,
-    gone: &Shape,
-) -> Result<PlaneSet<P>, NoMemory>
-    requires planes { HasPlanes board.now.parts set }
-    requires gone { IsKnown board.now.parts gone.now }
-    requires net { IsSome gone.now.owner }
-    ensures { IfOk result (λ new. HasPlanes board.now.parts new) }
-{
-    let made = Made::none(alloc, board)?;
-    let shapes = all_shapes(alloc, board, &made)?;
-    set.rest(alloc, board, gone, shapes.as_slice())
-}
-
-#[test]
-fn a_wire_that_came_and_went_leaves_no_trace(rt: HostRuntime) -> Result<(), Fail> {
-    let built = built_strips::<FlatPlane>(&rt, rt.alloc())?;
-    let rested = rested_strips::<FlatPlane>(&rt, rt.alloc())?;
-    assert_eq!(rt; rested.as_slice(), built.as_slice());
-    Ok(())
-}
-
-#[test]
-fn the_order_of_the_shapes_does_not_matter(rt: HostRuntime) -> Result<(), Fail> {
-    let built = built_strips::<FlatPlane>(&rt, rt.alloc())?;
-    let added = added_strips::<FlatPlane>(&rt, rt.alloc())?;
-    assert_eq!(rt; built.len(), 16);
-    assert_eq!(rt; added.as_slice(), built.as_slice());
-    Ok(())
 }
 
 fn label_at<P: Plane>(rt: &impl Abort, plane: &P, at: Point) -> Label {
