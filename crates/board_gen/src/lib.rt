@@ -5,7 +5,5 @@
 mod generating;
 mod parts;
 mod shapes;
-#[cfg(test)]
-mod tests;
 
 pub use generating::generate;

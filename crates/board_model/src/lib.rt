@@ -13,8 +13,6 @@ mod rules;
 mod segments;
 mod shapes;
 mod states;
-#[cfg(test)]
-mod tests;
 mod validity;
 
 pub use board_parts::{

@@ -11,8 +11,6 @@ mod parts;
 mod plans;
 mod requests;
 mod subjects;
-#[cfg(test)]
-mod tests;
 mod verbs;
 
 pub use asking::request_of;

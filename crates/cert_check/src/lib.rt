@@ -14,8 +14,6 @@ mod paths;
 mod places;
 mod rects;
 mod searches;
-#[cfg(test)]
-mod tests;
 mod verdicts;
 
 pub use laws::a_verdict_is_yes_exactly_where_all_is_right;

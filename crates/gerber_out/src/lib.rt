@@ -11,8 +11,6 @@ mod machine;
 mod numbers;
 mod reading;
 mod spelling;
-#[cfg(test)]
-mod tests;
 mod writing;
 
 pub use laws::readings_are_one;

@@ -5,8 +5,6 @@
 mod ends;
 mod frames;
 mod grows;
-#[cfg(test)]
-mod tests;
 
 pub use frames::frame;
 pub use grows::{via_grow, via_keep, wire_grow, wire_keep};

@@ -9,8 +9,6 @@ mod mem_sinks;
 mod mem_sources;
 mod reading;
 mod streams;
-#[cfg(test)]
-mod tests;
 mod writing;
 
 pub use adapters::{ReadSource, WriteSink};

@@ -11,8 +11,6 @@ mod laws;
 mod open_nets;
 mod printing;
 mod short_nets;
-#[cfg(test)]
-mod tests;
 mod touching;
 mod traced;
 

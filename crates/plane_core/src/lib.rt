@@ -17,6 +17,3 @@ pub use overlaps::{have_common, meets};
 pub use planes::Plane;
 pub use sides::Side;
 pub use strips::{Strip, Strips};
-
-#[cfg(test)]
-mod tests;

@@ -14,8 +14,6 @@ mod passing;
 mod rests;
 mod sets;
 mod shuts;
-#[cfg(test)]
-mod tests;
 
 pub use laws::planes_ignore_order;
 pub use sets::PlaneSet;

@@ -9,8 +9,6 @@ mod meaning;
 mod outlines;
 mod pairs;
 mod runs;
-#[cfg(test)]
-mod tests;
 
 pub use checks::violations;
 pub use meaning::violations_are_exact;

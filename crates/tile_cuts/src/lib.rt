@@ -14,6 +14,3 @@ mod stitches;
 pub use cuts::{cut_col, cut_row};
 pub use joins::{join_side, join_up};
 pub use relabels::relabel;
-
-#[cfg(test)]
-mod tests;

@@ -13,7 +13,5 @@ mod goals;
 mod keys;
 mod pushes;
 mod searches;
-#[cfg(test)]
-mod tests;
 
 pub use answers::{Found, search};

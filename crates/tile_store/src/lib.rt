@@ -10,6 +10,3 @@ mod tiles;
 pub use steps::Steps;
 pub use stores::TileStore;
 pub use tiles::{Tile, TileId};
-
-#[cfg(test)]
-mod tests;

@@ -6,8 +6,6 @@
 
 mod queues;
 mod tables;
-#[cfg(test)]
-mod tests;
 
 pub use queues::Queue;
 pub use tables::Table;

@@ -9,8 +9,6 @@ mod laws;
 mod marks;
 mod pours;
 mod seeds;
-#[cfg(test)]
-mod tests;
 mod texts;
 
 pub use laws::{a_pour_has_the_reached_points, reached_points_keep_the_rules, there_is_one_pour};
