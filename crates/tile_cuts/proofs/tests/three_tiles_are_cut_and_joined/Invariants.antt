@@ -1,4 +1,0 @@
-use Rattle.tile_cuts.proofs.tests.three_tiles_are_cut_and_joined.Given as goal
-
-abbrev pub ghosts-cut_and_join : goal.ghosts-cut_and_join
-ghosts-cut_and_join g a = record { name = a.blank.name; parts = a.blank.parts }

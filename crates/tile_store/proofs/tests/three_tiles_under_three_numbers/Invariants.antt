@@ -1,4 +1,0 @@
-use Rattle.tile_store.proofs.tests.three_tiles_under_three_numbers.Given as goal
-
-abbrev pub ghosts-area_at : goal.ghosts-area_at
-ghosts-area_at g a = record { name = a.blank.name; parts = a.blank.parts }
