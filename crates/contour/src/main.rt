@@ -1,36 +1,8 @@
-//! The program: a board text on standard input, the replies to its commands on standard output.
+//! The program: the real words and streams, handed to the library's top call, and the status that it
+//! gives.
 #![tactic(auto)]
 
-#[cfg(test)]
-mod adopt_tests;
-mod answers;
-mod begins;
-mod calls;
-#[cfg(test)]
-mod check_tests;
-mod checks;
-#[cfg(test)]
-mod connector;
-mod demos;
-mod endings;
-mod in_memory;
-mod inputs;
-mod lines;
-mod parts;
-#[cfg(test)]
-mod reader_tests;
-mod reports;
-#[cfg(test)]
-mod route_tests;
-mod sequels;
-#[cfg(test)]
-mod tests;
-mod upgrades;
-#[cfg(test)]
-mod words_tests;
-
-use crate::calls::contour;
-use crate::endings::Status;
+use contour_core::{Status, contour};
 use geo_rect::NoMemory;
 use io_edge::{ReadSource, WriteSink};
 use std::alloc::AllocError;
