@@ -1,0 +1,19 @@
+//! The boards of the tests, each made of its text.
+
+use board_model::Board;
+use board_reader::read_input;
+use std::alloc::Global;
+use std::test::Fail;
+
+/// The board of a text in which a semicolon ends a line.
+pub fn board_of(alloc: Global, text: &str) -> Result<Board, Fail> {
+    let mut bytes = Vec::new(alloc);
+    for byte in text.bytes() {
+        let put = if byte == b';' { b'\n' } else { byte };
+        bytes.push(put)?;
+    }
+    match read_input(alloc, &bytes) {
+        Ok(input) => Ok(input.board),
+        Err(_) => Err("the text is read".into()),
+    }
+}
