@@ -23,3 +23,15 @@ pub fn board_of(alloc: Global, text: &str) -> Result<Board, Fail> {
         Err(_) => Err("the text is read".into()),
     }
 }
+
+/// Looks at the board of a text in which a semicolon ends a line. Boards are let go here alone.
+pub fn on_board<F: Fn(&Board) -> Result<(), Fail>>(
+    alloc: Global,
+    text: &str,
+    look: &F,
+) -> Result<(), Fail>
+    requires { F.IsAlwaysCallable look.now }
+{
+    let board = board_of(alloc, text)?;
+    look(&board)
+}

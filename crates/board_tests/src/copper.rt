@@ -1,10 +1,11 @@
 //! Groups of copper that is joined, and what they tell of the nets.
 
-use crate::boards::board_of;
+use crate::boards::on_board;
 use board_model::{Board, Made};
 use geo_rect::{LayerId, List, NetId, NoMemory, Rect, Spot};
 use net_trace::{Piece, groups, trace_text};
 use std::alloc::Global;
+use std::process::Abort;
 use std::test::Fail;
 
 const TOP: LayerId = LayerId(0);
@@ -13,24 +14,19 @@ const BOTTOM: LayerId = LayerId(1);
 
 const A: NetId = NetId(0);
 
-/// A board of two nets with these pins.
-fn board_with(alloc: Global, pins: &str) -> Result<Board, Fail> {
-    let text = format!(in alloc;
+/// The text of a board of two nets with these pins.
+fn text_with(alloc: Global, pins: &str) -> Result<String, Fail> {
+    Ok(format!(in alloc;
         "board 1 demo 40 20;layer top;class sig;rule top sig 1 2;net a sig;net b sig;{pins}end;"
-    )?;
-    board_of(alloc, &text)
+    )?)
 }
 
-/// The report of the board on which nothing is made.
-fn report_of(alloc: Global, board: &Board) -> Result<List<u8>, Fail> {
+/// Looks at the report of the board on which nothing is made.
+fn expect_report(rt: &impl Abort, alloc: Global, board: &Board, wanted: &str) -> Result<(), Fail> {
     let made = Made::none(alloc, board)?;
-    Ok(trace_text(alloc, board, &made)?)
-}
-
-/// The report of the board with these pins.
-fn traced(alloc: Global, pins: &str) -> Result<List<u8>, Fail> {
-    let board = board_with(alloc, pins)?;
-    report_of(alloc, &board)
+    let text = trace_text(alloc, board, &made)?;
+    assert!(rt; text.as_slice() == wanted.as_bytes(), "{wanted}");
+    Ok(())
 }
 
 #[test]
@@ -49,8 +45,12 @@ fn reports_of_pins(rt: HostRuntime) -> Result<(), Fail> {
             "trace 3 groups 2\ngroup 1 2\ngroup 3 1\nopen b 2\nshort a b\n",
         ),
     ] {
-        let found = traced(rt.alloc(), pins)?;
-        assert!(rt; found.as_slice() == wanted.as_bytes(), "{pins}");
+        let text = text_with(rt.alloc(), pins)?;
+        on_board(
+            rt.alloc(),
+            &text,
+            &|board: &Board| { expect_report(&rt, rt.alloc(), board, wanted) },
+        )?;
     }
     Ok(())
 }

@@ -3,7 +3,7 @@
 ghost use Rattle.std.specs.Prelude.{◌≡◌};
 ghost use Rattle.board_model.specs.Known.{IsKnown, IsNearOrigin};
 
-use crate::boards::board_of;
+use crate::boards::on_board;
 use board_model::{Board, Shape, has_area};
 use geo_rect::{ClassId, KindId, LayerId, NetId, Rect};
 use grow_rules::{frame, via_grow, via_keep, wire_grow, wire_keep};
@@ -84,7 +84,7 @@ const BLOCK: [i32; 4] = [18, 0, 22, 14];
 
 const PIN: [i32; 4] = [4, 9, 6, 11];
 
-fn expect_wires_grown(rt: &impl Abort, board: &Board) {
+fn expect_wires_grown(rt: &impl Abort, board: &Board) -> Result<(), Fail> {
     for (layer, class, area, net, want) in [
         (0, 0, BLOCK, None, [16, -2, 24, 16]),
         (0, 0, PIN, Some(0), [2, 7, 8, 13]),
@@ -100,16 +100,19 @@ fn expect_wires_grown(rt: &impl Abort, board: &Board) {
         let found = wire_grow(board, LayerId(layer), ClassId(class), &shape);
         assert_eq!(rt; found, rect_of(rt, want), "layer {layer}, class {class}");
     }
+    Ok(())
 }
 
 #[test]
 fn grows_for_wires(rt: HostRuntime) -> Result<(), Fail> {
-    let board = board_of(rt.alloc(), WIDE)?;
-    expect_wires_grown(&rt, &board);
-    Ok(())
+    on_board(
+        rt.alloc(),
+        WIDE,
+        &|board: &Board| expect_wires_grown(&rt, board),
+    )
 }
 
-fn expect_vias_grown(rt: &impl Abort, board: &Board) {
+fn expect_vias_grown(rt: &impl Abort, board: &Board) -> Result<(), Fail> {
     assert!(rt; 0 < board.kinds());
     let kind = board.kind(KindId(0));
     for (layer, class, area, net, want) in [
@@ -126,16 +129,19 @@ fn expect_vias_grown(rt: &impl Abort, board: &Board) {
         let found = via_grow(board, KindId(0), ClassId(class), &shape);
         assert_eq!(rt; found, rect_of(rt, want), "layer {layer}, class {class}");
     }
+    Ok(())
 }
 
 #[test]
 fn grows_for_vias(rt: HostRuntime) -> Result<(), Fail> {
-    let board = board_of(rt.alloc(), WIDE)?;
-    expect_vias_grown(&rt, &board);
-    Ok(())
+    on_board(
+        rt.alloc(),
+        WIDE,
+        &|board: &Board| expect_vias_grown(&rt, board),
+    )
 }
 
-fn expect_wires_kept(rt: &impl Abort, board: &Board) {
+fn expect_wires_kept(rt: &impl Abort, board: &Board) -> Result<(), Fail> {
     let area = rect_of(rt, BLOCK);
     assert!(rt; has_area(&board.parts, area));
     for (layer, class, want) in [
@@ -148,16 +154,19 @@ fn expect_wires_kept(rt: &impl Abort, board: &Board) {
         let found = wire_keep(board, LayerId(layer), ClassId(class), area);
         assert_eq!(rt; found, rect_of(rt, want), "layer {layer}, class {class}");
     }
+    Ok(())
 }
 
 #[test]
 fn keeps_wires_out(rt: HostRuntime) -> Result<(), Fail> {
-    let board = board_of(rt.alloc(), WIDE)?;
-    expect_wires_kept(&rt, &board);
-    Ok(())
+    on_board(
+        rt.alloc(),
+        WIDE,
+        &|board: &Board| expect_wires_kept(&rt, board),
+    )
 }
 
-fn expect_vias_kept(rt: &impl Abort, board: &Board) {
+fn expect_vias_kept(rt: &impl Abort, board: &Board) -> Result<(), Fail> {
     assert!(rt; 0 < board.kinds());
     let kind = board.kind(KindId(0));
     let area = rect_of(rt, BLOCK);
@@ -174,27 +183,35 @@ fn expect_vias_kept(rt: &impl Abort, board: &Board) {
         let found = via_keep(board, KindId(0), ClassId(class), LayerId(layer), area);
         assert_eq!(rt; found, rect_of(rt, want), "layer {layer}, class {class}");
     }
+    Ok(())
 }
 
 #[test]
 fn keeps_vias_out(rt: HostRuntime) -> Result<(), Fail> {
-    let board = board_of(rt.alloc(), WIDE)?;
-    expect_vias_kept(&rt, &board);
-    Ok(())
+    on_board(
+        rt.alloc(),
+        WIDE,
+        &|board: &Board| expect_vias_kept(&rt, board),
+    )
 }
 
 /// The areas of the frame, in the order left, right, below and above.
-fn expect_frame(rt: &impl Abort, board: &Board, half: i32, want: [[i32; 4]; 4]) {
+fn expect_frame(
+    rt: &impl Abort,
+    board: &Board,
+    half: i32,
+    want: [[i32; 4]; 4],
+) -> Result<(), Fail> {
     assert!(rt; 1 <= half);
     assert!(rt; half <= 65_535);
     let want = want.map(|corners| rect_of(rt, corners));
     assert_eq!(rt; frame(board, half), want, "{half}");
+    Ok(())
 }
 
-/// The board of these sides.
-fn board_sized(alloc: Global, sides: &str) -> Result<Board, Fail> {
-    let text = format!(in alloc; "board 1 b {sides};layer top;class thin;rule top thin 1 2;end;")?;
-    board_of(alloc, &text)
+/// The text of a board of these sides.
+fn sized(alloc: Global, sides: &str) -> Result<String, Fail> {
+    Ok(format!(in alloc; "board 1 b {sides};layer top;class thin;rule top thin 1 2;end;")?)
 }
 
 #[test]
@@ -218,8 +235,12 @@ fn frames_boards(rt: HostRuntime) -> Result<(), Fail> {
             ],
         ),
     ] {
-        let board = board_sized(rt.alloc(), sides)?;
-        expect_frame(&rt, &board, half, want);
+        let text = sized(rt.alloc(), sides)?;
+        on_board(
+            rt.alloc(),
+            &text,
+            &|board: &Board| expect_frame(&rt, board, half, want),
+        )?;
     }
     Ok(())
 }

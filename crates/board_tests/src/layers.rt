@@ -3,7 +3,7 @@
 ghost use Rattle.std.specs.List.{AllByRecursion};
 ghost use Rattle.gerber_out.specs.Layers.{IsWritable};
 
-use crate::boards::board_of;
+use crate::boards::on_board;
 use board_model::{Board, Shape};
 use geo_rect::{LayerId, NetId, NoMemory, Rect, Text};
 use gerber_out::{ReadLayer, layer_text, read_layer};
@@ -68,8 +68,11 @@ fn expect_pins(rt: &impl Abort, alloc: Global, board: &Board) -> Result<(), Fail
 
 #[test]
 fn two_pins_are_written(rt: HostRuntime) -> Result<(), Fail> {
-    let board = board_of(rt.alloc(), BOARD)?;
-    expect_pins(&rt, rt.alloc(), &board)
+    on_board(
+        rt.alloc(),
+        BOARD,
+        &|board: &Board| expect_pins(&rt, rt.alloc(), board),
+    )
 }
 
 /// Whether the text fills the two pins.

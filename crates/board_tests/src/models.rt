@@ -1,8 +1,9 @@
 //! What is a board and what is none, and the names and pins of one.
 
-use crate::boards::board_of;
+use crate::boards::{board_of, on_board};
 use board_model::{Board, BoardParts, is_board};
 use geo_rect::{ClassId, KindId, LayerId, NetId};
+use std::process::Abort;
 use std::test::Fail;
 
 /// Two layers, two classes, a kind of via, and two nets, of which the first has the last two pins.
@@ -88,10 +89,17 @@ fn has_its_pins(board: &Board) -> bool {
     board.nth_pin(NetId(0), 1).area.x0 == 9
 }
 
+fn expect_lookups(rt: &impl Abort, board: &Board) -> Result<(), Fail> {
+    assert!(rt; knows_its_names(board));
+    assert!(rt; has_its_pins(board));
+    Ok(())
+}
+
 #[test]
 fn names_and_pins_are_found(rt: HostRuntime) -> Result<(), Fail> {
-    let board = board_of(rt.alloc(), SMALL)?;
-    assert!(rt; knows_its_names(&board));
-    assert!(rt; has_its_pins(&board));
-    Ok(())
+    on_board(
+        rt.alloc(),
+        SMALL,
+        &|board: &Board| expect_lookups(&rt, board),
+    )
 }

@@ -5,7 +5,7 @@ ghost use Rattle.board_model.specs.Shapes.{board_shapes};
 ghost use Rattle.board_parts.specs.Rules.{IsOnBoard};
 ghost use Rattle.plane_set.specs.Standing.{StandsFor};
 
-use crate::boards::board_of;
+use crate::boards::on_board;
 use board_model::{Board, Made, Shape, all_shapes};
 use flat_plane::FlatPlane;
 use geo_rect::{LayerId, List, NetId, NoMemory, Rect};
@@ -101,10 +101,17 @@ fn text_on<P: Plane>(
     Ok(text_with(alloc, board, &planes, zone)?)
 }
 
-/// The text of the pour of the net in the zone on the board with a wall.
-fn poured<P: Plane>(rt: &impl Abort, alloc: Global, zone: Rect) -> Result<List<u8>, Fail> {
-    let board = board_of(alloc, WALL)?;
-    text_on::<P>(rt, alloc, &board, zone)
+/// Looks at the text of the pour of the net in the zone.
+fn expect_pour<P: Plane>(
+    rt: &impl Abort,
+    alloc: Global,
+    board: &Board,
+    zone: Rect,
+    wanted: &str,
+) -> Result<(), Fail> {
+    let text = text_on::<P>(rt, alloc, board, zone)?;
+    assert!(rt; text.as_slice() == wanted.as_bytes());
+    Ok(())
 }
 
 #[test]
@@ -115,8 +122,11 @@ fn a_pour_flows_on_this_side_of_the_wall(rt: HostRuntime) -> Result<(), Fail> {
         (Rect::new(0, 0, 20, 16), left),
         (Rect::new(25, 0, 40, 5), "fill a top 0\n"),
     ] {
-        let text = poured::<FlatPlane>(&rt, rt.alloc(), zone)?;
-        assert!(rt; text.as_slice() == wanted.as_bytes());
+        on_board(
+            rt.alloc(),
+            WALL,
+            &|board: &Board| { expect_pour::<FlatPlane>(&rt, rt.alloc(), board, zone, wanted) },
+        )?;
     }
     Ok(())
 }

@@ -6,7 +6,7 @@ use std::alloc::Global;
 use std::test::Fail;
 
 /// The board of a text in which a semicolon ends a line.
-pub fn board_of(alloc: Global, text: &str) -> Result<Board, Fail> {
+fn board_of(alloc: Global, text: &str) -> Result<Board, Fail> {
     let mut bytes = Vec::new(alloc);
     for byte in text.bytes() {
         let put = if byte == b';' { b'\n' } else { byte };
@@ -16,4 +16,16 @@ pub fn board_of(alloc: Global, text: &str) -> Result<Board, Fail> {
         Ok(input) => Ok(input.board),
         Err(_) => Err("the text is read".into()),
     }
+}
+
+/// Looks at the board of a text in which a semicolon ends a line. Boards are let go here alone.
+pub fn on_board<F: Fn(&Board) -> Result<(), Fail>>(
+    alloc: Global,
+    text: &str,
+    look: &F,
+) -> Result<(), Fail>
+    requires { F.IsAlwaysCallable look.now }
+{
+    let board = board_of(alloc, text)?;
+    look(&board)
 }

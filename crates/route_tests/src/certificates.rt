@@ -4,7 +4,7 @@ ghost use Rattle.std.specs.Prelude.{IfSome, IsTrue};
 ghost use Rattle.std.specs.Option.{option_copied};
 ghost use Rattle.walk_check.specs.Corners.{HasPlaces};
 
-use crate::boards::board_of;
+use crate::boards::on_board;
 use crate::places::{are_on_board, has_places};
 use board_model::{Board, Conn, Leg};
 use cert_check::{Verdict, Why, check};
@@ -174,8 +174,11 @@ fn expect_least<P: Plane>(rt: &impl Abort, alloc: Global, board: &Board) -> Resu
 
 #[test]
 fn the_way_over_a_wall_is_least(rt: HostRuntime) -> Result<(), Fail> {
-    let board = board_of(rt.alloc(), OPEN)?;
-    expect_least::<FlatPlane>(&rt, rt.alloc(), &board)
+    on_board(
+        rt.alloc(),
+        OPEN,
+        &|board: &Board| expect_least::<FlatPlane>(&rt, rt.alloc(), board),
+    )
 }
 
 /// Without the target's strip, and with this bound.
@@ -207,8 +210,11 @@ fn expect_faults<P: Plane>(rt: &impl Abort, alloc: Global, board: &Board) -> Res
 
 #[test]
 fn a_bound_that_is_not_reached_is_refused(rt: HostRuntime) -> Result<(), Fail> {
-    let board = board_of(rt.alloc(), OPEN)?;
-    expect_faults::<FlatPlane>(&rt, rt.alloc(), &board)
+    on_board(
+        rt.alloc(),
+        OPEN,
+        &|board: &Board| expect_faults::<FlatPlane>(&rt, rt.alloc(), board),
+    )
 }
 
 fn expect_none<P: Plane>(rt: &impl Abort, alloc: Global, board: &Board) -> Result<(), Fail> {
@@ -232,6 +238,9 @@ fn expect_none<P: Plane>(rt: &impl Abort, alloc: Global, board: &Board) -> Resul
 
 #[test]
 fn a_wall_up_to_the_edge_leaves_no_way(rt: HostRuntime) -> Result<(), Fail> {
-    let board = board_of(rt.alloc(), SHUT)?;
-    expect_none::<FlatPlane>(&rt, rt.alloc(), &board)
+    on_board(
+        rt.alloc(),
+        SHUT,
+        &|board: &Board| expect_none::<FlatPlane>(&rt, rt.alloc(), board),
+    )
 }

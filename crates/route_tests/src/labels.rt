@@ -5,7 +5,7 @@ ghost use Rattle.geo_rect.specs.Plane.{HasPoint};
 ghost use Rattle.grow_rules.specs.Frames.{IsBoardPoint};
 ghost use Rattle.plane_set.specs.Standing.{HasPlanes};
 
-use crate::boards::board_of;
+use crate::boards::on_board;
 use board_model::Board;
 use flat_plane::FlatPlane;
 use geo_rect::{ClassId, KindId, Label, LayerId, NetId, NoMemory, Node, Point, Rect};
@@ -68,8 +68,11 @@ fn check_vias<P: Plane>(rt: &impl Abort, alloc: Global, board: &Board) -> Result
 
 #[test]
 fn vias_keep_off_both_layers(rt: HostRuntime) -> Result<(), Fail> {
-    let board = board_of(rt.alloc(), BOTH)?;
-    check_vias::<FlatPlane>(&rt, rt.alloc(), &board)
+    on_board(
+        rt.alloc(),
+        BOTH,
+        &|board: &Board| check_vias::<FlatPlane>(&rt, rt.alloc(), board),
+    )
 }
 
 /// Whether the net may pass a point of the first layer.
@@ -115,8 +118,11 @@ fn check_wall<P: Plane>(rt: &impl Abort, alloc: Global, board: &Board) -> Result
 
 #[test]
 fn a_net_passes_outside_the_gap_of_a_wall(rt: HostRuntime) -> Result<(), Fail> {
-    let board = board_of(rt.alloc(), WALL)?;
-    check_wall::<FlatPlane>(&rt, rt.alloc(), &board)
+    on_board(
+        rt.alloc(),
+        WALL,
+        &|board: &Board| check_wall::<FlatPlane>(&rt, rt.alloc(), board),
+    )
 }
 
 /// The labels of a point in the planes of wires on the second layer and of vias.
@@ -132,34 +138,25 @@ fn both_labels<P: Plane>(rt: &impl Abort, board: &Board, set: &PlaneSet<P>, at: 
 }
 
 /// The same with the planes of the board.
-fn labels_on<P: Plane>(
+fn expect_labels<P: Plane>(
     rt: &impl Abort,
     alloc: Global,
     board: &Board,
-    at: Point,
-) -> Result<[Label; 2], Fail> {
+    x: i32,
+    labels: [Label; 2],
+) -> Result<(), Fail> {
     let set: PlaneSet<P> = PlaneSet::build(alloc, board)?;
-    Ok(both_labels(rt, board, &set, at))
+    let found = both_labels(rt, board, &set, Point { x, y: 5 });
+    assert_eq!(rt; found, labels, "at {x}");
+    Ok(())
 }
 
-/// A board of three layers, with a keep-out and one kind of via over all layers, whose pad is smaller on
-/// the middle one.
-fn three_layers(alloc: Global, keepout: &str) -> Result<Board, Fail> {
-    let text = format!(in alloc;
+/// The text of a board of three layers, with a keep-out and one kind of via over all layers, whose pad is
+/// smaller on the middle one.
+fn three_layers(alloc: Global, keepout: &str) -> Result<String, Fail> {
+    Ok(format!(in alloc;
         "board 2 three 40 20;layer top;layer middle;layer bottom;class thin;rule top thin 1 2;rule middle thin 1 2;rule bottom thin 1 2;viakind hole top bottom 5;pad hole thin 3;inner hole thin 1;keepout {keepout} 18 0 22 14;net a thin;end;"
-    )?;
-    board_of(alloc, &text)
-}
-
-/// The same on that board.
-fn labels_beside<P: Plane>(
-    rt: &impl Abort,
-    alloc: Global,
-    keepout: &str,
-    at: Point,
-) -> Result<[Label; 2], Fail> {
-    let board = three_layers(alloc, keepout)?;
-    labels_on::<P>(rt, alloc, &board, at)
+    )?)
 }
 
 /// A wire reaches 1 round its middle, a via 3 on the outer layers and 1 on the middle one.
@@ -177,9 +174,12 @@ fn keepouts_shut_wires_or_vias(rt: HostRuntime) -> Result<(), Fail> {
         ("vias top", 15, [free, many]),
         ("vias top", 2, [free, many]),
     ] {
-        let at = Point { x, y: 5 };
-        let found = labels_beside::<FlatPlane>(&rt, rt.alloc(), keepout, at)?;
-        assert_eq!(rt; found, labels, "at {x}, {keepout}");
+        let text = three_layers(rt.alloc(), keepout)?;
+        on_board(
+            rt.alloc(),
+            &text,
+            &|board: &Board| { expect_labels::<FlatPlane>(&rt, rt.alloc(), board, x, labels) },
+        )?;
     }
     Ok(())
 }

@@ -9,7 +9,7 @@ ghost use Rattle.strip_moves.specs.Boxes.{IsBoardBox};
 ghost use Rattle.strip_moves.specs.Grounds.{ground_of};
 ghost use Rattle.tile_search.specs.Answers.{HasRightPath, HasPathEnd};
 
-use crate::boards::board_of;
+use crate::boards::on_board;
 use crate::places::{are_on_board, has_places};
 use board_model::Board;
 use cert_check::{Verdict, check};
@@ -131,34 +131,6 @@ fn search_on<P: Plane>(
     Ok(found)
 }
 
-/// The board of one layer with these lines.
-fn board_with(alloc: Global, lines: &str) -> Result<Board, Fail> {
-    let text = format!(in alloc;
-        "board 1 wall 40 20;layer top;class thin;rule top thin 1 2;{lines}net a thin;end;"
-    )?;
-    board_of(alloc, &text)
-}
-
-/// What the search finds on the board of one layer with these lines, from the one area to the other.
-fn search_past<P: Plane>(
-    rt: &impl Abort,
-    alloc: Global,
-    lines: &str,
-    from: Rect,
-    to: Rect,
-) -> Result<Found, Fail> {
-    let board = board_with(alloc, lines)?;
-    search_on::<P>(rt, alloc, &board, on(TOP, from), on(TOP, to))
-}
-
-/// What the search finds on the board of three layers from its first pin to its second.
-fn search_through<P: Plane>(rt: &impl Abort, alloc: Global) -> Result<Found, Fail> {
-    let board = board_of(alloc, THROUGH)?;
-    let from = on(TOP, Rect::new(10, 10, 10, 10));
-    let to = on(BOTTOM, Rect::new(17, 10, 17, 10));
-    search_on::<P>(rt, alloc, &board, from, to)
-}
-
 /// What the path costs and where it ends, `None` where there is no route.
 fn path_of(found: &Found) -> Option<(u128, Node)> {
     match found {
@@ -198,44 +170,86 @@ fn is_goal_ordered(found: &Found, to: Rect) -> bool {
     }
 }
 
+/// Looks for a path from the one box to the other of this cost that ends here, in goal order.
+fn expect_path<P: Plane>(
+    rt: &impl Abort,
+    alloc: Global,
+    board: &Board,
+    from: Spot,
+    to: Spot,
+    cost: u128,
+    end: Node,
+) -> Result<(), Fail> {
+    let found = search_on::<P>(rt, alloc, board, from, to)?;
+    assert!(rt; path_of(&found) == Some((cost, end)));
+    assert!(rt; is_goal_ordered(&found, to.area));
+    Ok(())
+}
+
+fn expect_none<P: Plane>(
+    rt: &impl Abort,
+    alloc: Global,
+    board: &Board,
+    from: Spot,
+    to: Spot,
+) -> Result<(), Fail> {
+    let found = search_on::<P>(rt, alloc, board, from, to)?;
+    assert!(rt; path_of(&found).is_none());
+    Ok(())
+}
+
+fn node(x: i32, y: i32, layer: LayerId) -> Node {
+    Node { x, y, layer }
+}
+
+/// A wall that leaves a gap.
+const OPEN: &str =
+    "board 1 wall 40 20;layer top;class thin;rule top thin 1 2;block top 18 0 22 14;net a thin;end;";
+
+/// A wall up to the edge.
+const SHUT: &str =
+    "board 1 wall 40 20;layer top;class thin;rule top thin 1 2;block top 18 0 22 17;net a thin;end;";
+
 #[test]
 fn a_net_goes_round_a_wall_with_a_gap(rt: HostRuntime) -> Result<(), Fail> {
-    let wall = "block top 18 0 22 14;";
-    let open = search_past::<FlatPlane>(&rt, rt.alloc(), wall, left_pin(), right_pin())?;
-    let end = Node {
-        x: 34,
-        y: 11,
-        layer: TOP,
-    };
-    assert!(rt; path_of(&open) == Some((40, end)));
-    assert!(rt; is_goal_ordered(&open, right_pin()));
-    Ok(())
+    let (from, to) = (on(TOP, left_pin()), on(TOP, right_pin()));
+    on_board(
+        rt.alloc(),
+        OPEN,
+        &|board: &Board| {
+            expect_path::<FlatPlane>(&rt, rt.alloc(), board, from, to, 40, node(34, 11, TOP))
+        },
+    )
 }
 
 #[test]
 fn no_route_leads_through_a_wall_up_to_the_edge(rt: HostRuntime) -> Result<(), Fail> {
-    let wall = "block top 18 0 22 17;";
-    let shut = search_past::<FlatPlane>(&rt, rt.alloc(), wall, left_pin(), right_pin())?;
-    assert!(rt; path_of(&shut).is_none());
-    Ok(())
+    let (from, to) = (on(TOP, left_pin()), on(TOP, right_pin()));
+    on_board(
+        rt.alloc(),
+        SHUT,
+        &|board: &Board| { expect_none::<FlatPlane>(&rt, rt.alloc(), board, from, to) },
+    )
 }
+
+/// A wall below and one above the way.
+const WALLS: &str =
+    "board 1 wall 40 20;layer top;class thin;rule top thin 1 2;block top 10 6 30 6;block top 0 14 30 14;net a thin;end;";
 
 /// Between the walls the strip of the rows 9 to 11 is entered at (7, 9) for 18, from where the target is
 /// 22 away, and at (33, 9) for 22. The way out is above the second, 15 right, 16 up and 13 left from the
 /// start; from the first it would cost 66 in all.
 #[test]
 fn the_dearer_of_two_fronts_leads_on(rt: HostRuntime) -> Result<(), Fail> {
-    let walls = "block top 10 6 30 6;block top 0 14 30 14;";
-    let from = Rect::new(18, 2, 18, 2);
-    let to = Rect::new(20, 18, 20, 18);
-    let found = search_past::<FlatPlane>(&rt, rt.alloc(), walls, from, to)?;
-    let end = Node {
-        x: 20,
-        y: 18,
-        layer: TOP,
-    };
-    assert!(rt; path_of(&found) == Some((44, end)));
-    Ok(())
+    let from = on(TOP, Rect::new(18, 2, 18, 2));
+    let to = on(TOP, Rect::new(20, 18, 20, 18));
+    on_board(
+        rt.alloc(),
+        WALLS,
+        &|board: &Board| {
+            expect_path::<FlatPlane>(&rt, rt.alloc(), board, from, to, 44, node(20, 18, TOP))
+        },
+    )
 }
 
 /// Three layers, a kind of via from the first to the last, and a wall on the one between.
@@ -246,12 +260,13 @@ const THROUGH: &str =
 /// at 18, one past the pin.
 #[test]
 fn a_via_joins_the_first_layer_and_the_last(rt: HostRuntime) -> Result<(), Fail> {
-    let found = search_through::<FlatPlane>(&rt, rt.alloc())?;
-    let end = Node {
-        x: 17,
-        y: 10,
-        layer: BOTTOM,
-    };
-    assert!(rt; path_of(&found) == Some((14, end)));
-    Ok(())
+    let from = on(TOP, Rect::new(10, 10, 10, 10));
+    let to = on(BOTTOM, Rect::new(17, 10, 17, 10));
+    on_board(
+        rt.alloc(),
+        THROUGH,
+        &|board: &Board| {
+            expect_path::<FlatPlane>(&rt, rt.alloc(), board, from, to, 14, node(17, 10, BOTTOM))
+        },
+    )
 }
