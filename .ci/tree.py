@@ -63,7 +63,7 @@ class Names:
         self.paths = files()
         self.base_names = {os.path.basename(path) for path in self.paths}
         self.crates = set(crates())
-        self.defined, self.used, self.functions = set(), set(), set()
+        self.defined, self.used, self.functions, self.traits = set(), set(), set(), set()
         self.of_crate = {}
         for path in self.paths:
             if path.endswith(CODE):
@@ -80,6 +80,7 @@ class Names:
             found = set(DEFINED_RT.findall(code)) | set(CLAUSE.findall(code))
             found |= set(re.findall(r'^\s+(?:pub )?(\w+)(?:[:,({]| =)', code, re.M))
             self.functions |= set(re.findall(r'\bfn\s+(\w+)', code))
+            self.traits |= set(re.findall(r'\btrait\s+(\w+)', code))
         else:
             found = set(DEFINED_ANTT.findall(code)) | set(re.findall(r'^\s+(?:pub )?(\w+) :', code, re.M))
         self.defined |= found
@@ -141,27 +142,28 @@ class Names:
                 rest = text[head.end():]
                 contract = re.split(r'^ *\{\}?$|^ *fn |;$', rest, maxsplit=1, flags=re.M)[0]
                 indent, is_public, name = head.groups()
-                if 'ensures' not in contract:
+                kind, owner = last_head(text[:head.start()]) if indent else ('', '')
+                # A method of a trait of the tree has the contract that the trait gives it.
+                is_given = kind in self.traits and owner in shown
+                if is_given or indent and 'ensures' in contract and (kind == 'trait' or is_public and owner in shown):
+                    found.add(name)
+                if indent or 'ensures' not in contract:
                     continue
-                if indent:
-                    owner = last_owner(text[:head.start()])
-                    if owner in shown or module in open_modules or 'trait ' in owner:
-                        found.add(name)
-                elif is_public and (name in shown or module in open_modules or module == 'lib'):
+                if is_public and (name in shown or module in open_modules or module == 'lib'):
                     found.add(name)
         return found
 
 
-def last_owner(text):
-    """The type of the `impl` or the name of the trait that the text ends within."""
+def last_head(text):
+    """What the text ends within: ('trait', name), ('', type) for an `impl` of a type, (trait, type) for one of a trait."""
     heads = re.findall(r'^(?:pub )?(impl|trait)\b([^{]*)', text, re.M)
     if not heads:
-        return ''
+        return '', ''
     kind, rest = heads[-1]
     if kind == 'trait':
-        return re.match(r'\s*(\w+)', rest)[1]
-    rest = re.sub(r'^\s*<[^>]*(?:<[^>]*>[^>]*)*>', '', rest)
-    return re.search(r'(?:.*\bfor\s+)?(\w+)', rest.replace('\n', ' '))[1]
+        return 'trait', re.match(r'\s*(\w+)', rest)[1]
+    words = re.match(r'(?:<[^>]*(?:<[^>]*>[^>]*)*>)?\s*(\w+)(?:<[^>]*>)?(?:\s+for\s+(\w+))?', rest.strip())
+    return (words[1], words[2]) if words and words[2] else ('', words[1] if words else '')
 
 
 def looks_defined(word):
