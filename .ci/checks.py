@@ -2,6 +2,7 @@
 """Holds documents, examples and the built program to the tree, in seconds and without any proof.
 
     .ci/checks.py [--program PATH] [CHECK ..]
+    .ci/checks.py --above CRATE     lists the crates that stand on a crate, which are proved again when it changes
 
 Without names all checks run. PATH is the built program, crates/contour/out/contour where none is given.
 
@@ -46,7 +47,7 @@ def examples(program):
     folder = os.path.join(TOP, 'examples')
     boards = sorted(name[:-6] for name in os.listdir(folder) if name.endswith('.board'))
     replies = sorted(name[:-6] for name in os.listdir(folder) if name.endswith('.reply'))
-    faults = [f'examples/{name}: a board without a reply, or a reply without a board' for name in set(boards) ^ set(replies)]
+    faults = [f'examples/{name}: a board or a reply without the other' for name in sorted(set(boards) ^ set(replies))]
     for name in sorted(set(boards) & set(replies)):
         with open(os.path.join(folder, f'{name}.board'), 'rb') as file:
             board = file.read()
@@ -157,7 +158,8 @@ def crates(_):
             last = name.split('::')[-1]
             if known.is_function(last) and last not in public and not known.is_else(crate, last):
                 faults.append(f'{path}: {name} is no public function of {crate} with a contract')
-    mapped = [name for name in re.findall(r'^\| `?(\w+)`? \|', tree.text_of('docs/ARCHITECTURE.md'), re.M) if name in listed]
+    rows = re.findall(r'^\| `?(\w+)`? \|', tree.text_of('docs/ARCHITECTURE.md'), re.M)
+    mapped = [name for name in rows if name in listed]
     if mapped != listed:
         odd = next((a for a, b in zip(mapped + [None], listed + [None]) if a != b), None)
         faults.append(f'docs/ARCHITECTURE.md: its crates are not those of crates.txt in the same order, from {odd} on')
@@ -208,10 +210,14 @@ NEED_PROGRAM = ('examples', 'readme', 'statuses', 'tools')
 
 
 def main():
-    parser = argparse.ArgumentParser(usage='.ci/checks.py [--program PATH] [CHECK ..]')
+    parser = argparse.ArgumentParser(usage='.ci/checks.py [--program PATH] [CHECK ..] | --above CRATE')
     parser.add_argument('--program', default=os.path.join(TOP, 'crates/contour/out/contour'))
+    parser.add_argument('--above', metavar='CRATE', choices=tree.crates())
     parser.add_argument('checks', nargs='*', metavar='CHECK')
     given = parser.parse_args()
+    if given.above:
+        print(*tree.above(given.above), sep='\n')
+        return 0
     unknown = [name for name in given.checks if name not in CHECKS]
     if unknown:
         parser.error(f'{unknown[0]} is none of {", ".join(CHECKS)}')

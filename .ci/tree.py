@@ -47,6 +47,17 @@ def crates():
     return CRATES_TEXT.findall(text_of('crates.txt'))
 
 
+def above(crate):
+    """The crates that stand on a crate, in the order of crates.txt."""
+    uses = {line.split(':')[0].split()[0]: line.split(':')[1].split()
+            for line in text_of('crates.txt').split('\n') if ':' in line.split('#')[0]}
+    found, count = {crate}, 0
+    while len(found) > count:
+        count = len(found)
+        found |= {name for name in uses if found & set(uses[name])}
+    return [name for name in crates() if name in found and name != crate]
+
+
 def without_blocks(text):
     return re.sub(r'^```.*?^```', '', text, flags=re.M | re.S)
 
