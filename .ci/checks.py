@@ -168,8 +168,8 @@ def crates(_):
 
 def columns(_):
     return [f'{path}:{number}: {len(line)} columns'
-            for path in [*tree.documents(), 'docs/man/contour.1', 'contour', '.ci/run', '.ci/checks.py']
-            if os.path.isfile(os.path.join(TOP, path))
+            for path in tree.files()
+            if path.endswith(('.md', '.py', '.1')) or path in ('contour', '.ci/run')
             for number, line in enumerate(tree.text_of(path).split('\n'), 1) if len(line) > COLUMNS]
 
 

@@ -47,7 +47,8 @@ WRONG_NAMES = (
     (['through', 'a', 'c'], 5),
     (['through', 'a', 'b', 'b'], 6),
 )
-BAD_WORDS = ([], ['frob'], ['run', 'quiet'], ['run', '--quiet', 'x'], ['gen'], ['gen', '0'], ['gen', '2001'], ['gen', '01'],
+BAD_WORDS = ([], ['frob'], ['run', 'quiet'], ['run', '--quiet', 'x'], ['gen'], ['gen', '0'], ['gen', '2001'],
+             ['gen', '01'],
              ['demo', 'ten'], ['auto', '0'], ['auto', '101'], ['through', 'a'], ['fill', 'a', 'top', '0'],
              ['trace', 'x'], ['check', '-'], [b'\xff'], [b'run', b'\xff'])
 
@@ -59,13 +60,14 @@ class Look:
         self.program, self.found = program, []
 
     def expect(self, what, words, data, status, out, err, **streams):
-        """Runs it on the bytes, and compares the status and both streams; where a stream is given, it is not compared."""
+        """Runs it on the bytes, and compares the status and both streams, but for a stream that is given."""
         if 'stdin' not in streams:
             streams['input'] = data
         for name in ('stdout', 'stderr'):
             streams.setdefault(name, subprocess.PIPE)
         ran = subprocess.run([self.program, *words], timeout=SECONDS, **streams)
-        for name, given, wanted in (('status', ran.returncode, status), ('output', ran.stdout, out), ('error', ran.stderr, err)):
+        ended = (('status', ran.returncode, status), ('output', ran.stdout, out), ('error', ran.stderr, err))
+        for name, given, wanted in ended:
             if given is not None and wanted is not None and given != wanted:
                 self.found.append(f'{what}: {name} {str(given)[:60]}, and not {str(wanted)[:60]}')
         return ran
@@ -84,7 +86,8 @@ def done(look):
 
 def wrong(look):
     text = BOARD + b'rules\nall\n' + REPLIES
-    look.expect('a wrong reply', ['check'], text + b'rules 1\noutline top net a 1000 700 1000 700\n', 1, b'', b'wrong reply 1\n')
+    violation = b'rules 1\noutline top net a 1000 700 1000 700\n'
+    look.expect('a wrong reply', ['check'], text + violation, 1, b'', b'wrong reply 1\n')
     look.expect('a reply that is missing', ['check'], text + b'rules 0\n', 1, b'', b'wrong reply 2\n')
     look.expect('a report on wrong replies', ['trace'], text + b'rules 0\n', 1, b'', b'wrong reply 2\n')
     look.expect('gerber on wrong replies', ['gerber', 'top'], text + b'rules 0\n', 1, b'', b'wrong reply 2\n')
@@ -104,7 +107,8 @@ def bad_input(look):
         look.expect(what, ['run'], text, 3, b'', said)
         look.expect(f'{what}, upgraded', ['upgrade'], text, 3, b'', said)
     for words, kind in WRONG_NAMES:
-        look.expect(f'words {words}', words, BOARD + (REPLIES if words[0] != 'through' else b''), 3, b'', b'line 0 kind %d\n' % kind)
+        text = BOARD if words[0] == 'through' else BOARD + REPLIES
+        look.expect(f'words {words}', words, text, 3, b'', b'line 0 kind %d\n' % kind)
     look.expect('no line of replies', ['check'], BOARD, 3, b'', b'line 14 kind 9\n')
     look.expect('replies that are none', ['check'], BOARD + REPLIES + b'rules\n', 3, b'', b'line 15 kind 13\n')
     zero = os.open('/dev/zero', os.O_RDONLY)

@@ -7,13 +7,13 @@ TOP = os.path.dirname(os.path.dirname(os.path.abspath(__file__)))
 # Documents that quote names of other programs.
 UNCHECKED = ('tools/kicad/', 'docs/measured-kicad.md')
 CODE = ('.rt', '.antt')
-FILE = re.compile(r'[\w.-]*(?:/[\w.*-]+)*\.(?:rt|antt|md|py|txt|board|reply|svg|edit|1)|(?:crates|docs|bench|examples|tools|\.ci)(?:/[\w.-]+)*/?')
+FILE = re.compile(r'[\w.-]*(?:/[\w.*-]+)*\.(?:rt|antt|md|py|txt|board|reply|svg|edit|1)'
+                  r'|(?:crates|docs|bench|examples|tools|\.ci)(?:/[\w.-]+)*/?')
 NAME = re.compile(r'[A-Za-z_]\w*(?:::[A-Za-z_]\w*)*')
 CRATES_TEXT = re.compile(r'^([a-z]\w*)(?: [a-z_=0-9]+)*:', re.M)
 # Words of the toolchain, of the system and of the texts' own examples, which no source of the tree defines.
-OUTSIDE = set('''rt rt_ci rt_try rt_check git python3 bash make_pictures free_lines wc cc man KiCad
-    no_way too_close_board two_nets std Vec String Option Result Global HostRuntime ExitCode SmallVec IndexMap Slab BTreeSet
-    io_Result InvalidData OutOfMemory rust alloc LD_PRELOAD MemAvailable NAME PATH FILE OUT COMMAND LICENSE HANDLES'''.split())
+OUTSIDE = set('''rt git python3 bash wc cc man std Vec String Option Result Global HostRuntime ExitCode SmallVec
+    IndexMap Slab BTreeSet InvalidData OutOfMemory LD_PRELOAD NAME PATH FILE OUT COMMAND LICENSE HANDLES'''.split())
 DEFINED_RT = re.compile(r'\b(?:fn|struct|enum|trait|const|type|mod|static)\s+(\w+)')
 DEFINED_ANTT = re.compile(
     r'^(?:(?:pub|abbrev|unfoldable|opaque|record|data|use|private)\s+)*([^\s:(){},]+)\s*(?:[({][^\n]*)?:(?=\s)', re.M)
@@ -81,7 +81,8 @@ class Names:
                 self.take(path)
             elif path.endswith('.py') or path in ('contour', '.ci/run'):
                 self.defined |= set(re.findall(r'\w+', text_of(path)))
-        self.formats = set(re.findall(r'[\w-]+', text_of('docs/FORMATS.md')))
+        # The words of the texts, which have no underscore.
+        self.formats = set(re.findall(r'[A-Za-z-]+', text_of('docs/FORMATS.md')))
 
     def take(self, path):
         text = text_of(path)
@@ -102,14 +103,14 @@ class Names:
     def is_path(self, word, document):
         """Whether a file or folder is there, from the top, beside the document, or anywhere under this ending."""
         word = word.rstrip('/')
-        if '*' in word or 'NAME' in word:
+        if '*' in word or 'NAME' in word or '/out/' in word:
             return True
         near = os.path.normpath(os.path.join(os.path.dirname(document), word))
         return (any(os.path.exists(os.path.join(TOP, it)) for it in (word, near))
                 or any(path.endswith('/' + word) for path in self.paths))
 
     def is_name(self, name):
-        return name in self.defined or name in self.crates or name in self.used or name in self.formats or name in OUTSIDE
+        return any(name in known for known in (self.defined, self.crates, self.used, self.formats, OUTSIDE))
 
     def unknown_in(self, document):
         """The files and names of a document that are nowhere in the tree."""
@@ -122,7 +123,8 @@ class Names:
                 elif NAME.fullmatch(word) and looks_defined(word):
                     yield from (part for part in word.split('::') if not self.is_name(part))
         plain = re.sub(r'`[^`\n]*`|\]\([^)]*\)|https?://\S+|"[^"]*"', ' ', text)
-        yield from (word for word in re.findall(r'(?<![\w/.-])[a-z]+(?:_[a-z0-9]+)+(?![\w/])', plain) if not self.is_name(word))
+        words = re.findall(r'(?<![\w/.-])[a-z]+(?:_[a-z0-9]+)+(?![\w/])', plain)
+        yield from (word for word in words if not self.is_name(word))
 
     def is_function(self, name):
         return name in self.functions
@@ -166,7 +168,7 @@ class Names:
 
 
 def last_head(text):
-    """What the text ends within: ('trait', name), ('', type) for an `impl` of a type, (trait, type) for one of a trait."""
+    """What the text ends within: ('trait', name), ('', type) for an `impl` of a type, (trait, type) of a trait's."""
     heads = re.findall(r'^(?:pub )?(impl|trait)\b([^{]*)', text, re.M)
     if not heads:
         return '', ''
