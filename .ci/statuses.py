@@ -79,9 +79,12 @@ def done(look):
     look.expect('run without a command', ['run', '--quiet'], BOARD, 0, b'', b'')
     look.expect('check', ['check'], BOARD + b'rules\n' + REPLIES + replies, 0, b'right 1\n', b'')
     look.expect('trace', ['trace'], BOARD + REPLIES, 0, None, b'')
-    look.expect('gen with no input', ['gen', '1'], None, 0, None, b'', stdin=subprocess.DEVNULL)
-    first = look.expect('demo', ['demo', '3'], None, 0, None, b'', stdin=subprocess.DEVNULL)
-    look.expect('demo again', ['demo', '3'], None, 0, first.stdout, b'', stdin=subprocess.DEVNULL)
+    # A folder as input: what reads it ends with status 4, so these read nothing.
+    folder = os.open('.', os.O_RDONLY)
+    look.expect('gen', ['gen', '1'], None, 0, None, b'', stdin=folder)
+    first = look.expect('demo', ['demo', '3'], None, 0, None, b'', stdin=folder)
+    look.expect('demo again', ['demo', '3'], None, 0, first.stdout, b'', stdin=folder)
+    os.close(folder)
 
 
 def wrong(look):
@@ -95,7 +98,6 @@ def wrong(look):
 
 def bad_words(look):
     for words in BAD_WORDS:
-        # A folder as input: what reads it ends with status 4.
         with_folder = os.open('.', os.O_RDONLY)
         look.expect(f'words {words}', words, None, 2, b'', USAGE, stdin=with_folder)
         os.close(with_folder)
