@@ -198,6 +198,8 @@ def faults():
         if path.startswith('examples/') or path.endswith(('.svg', '.png')) or path == '.ci/tree.py':
             continue
         text = text_of(path)
+        if '\0' in text:
+            continue
         found += [f'{path}: {match.group()}' for match in MACHINE.finditer(text)]
         if not path.startswith('tools/'):
             found += [f'{path}: {match.group()}' for match in NUMBERED.finditer(comments(path, text))]
