@@ -15,6 +15,7 @@ Without names all checks run. PATH is the built program, crates/contour/out/cont
     statuses   each status of the built program, with both streams
     words      each word of the program's commands stands in README.md, docs/FORMATS.md and docs/man/contour.1
     tree       no number of a task and no path of a machine stands in the tree
+    pictures   the pictures are those that tools/view/make-pictures makes
     tools      the tests of tools/*/tests
 
 The last line is `N checks passed`; else each fault has a line, and the status is 1.
@@ -181,6 +182,16 @@ def words(_):
     return faults
 
 
+def pictures(program):
+    maker = os.path.join(TOP, 'tools/view/make-pictures')
+    if not os.path.isfile(maker):
+        return []
+    ran = subprocess.run([maker, '--check'], cwd=TOP, capture_output=True, text=True,
+                         env={**os.environ, 'CONTOUR': os.path.abspath(program)})
+    return [f'tools/view/make-pictures --check: {line}' for line in (ran.stdout + ran.stderr).strip().split('\n')
+            ] if ran.returncode else []
+
+
 def tools(program):
     faults = []
     folder = os.path.join(TOP, 'tools')
@@ -204,9 +215,10 @@ CHECKS = {
     'statuses': statuses.faults,
     'words': words,
     'tree': lambda _: tree.faults(),
+    'pictures': pictures,
     'tools': tools,
 }
-NEED_PROGRAM = ('examples', 'readme', 'statuses', 'tools')
+NEED_PROGRAM = ('examples', 'readme', 'statuses', 'pictures', 'tools')
 
 
 def main():
