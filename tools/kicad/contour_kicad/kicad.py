@@ -212,3 +212,10 @@ def box_of(shape):
     points = [point for contour in contours_of(shape) for point in contour]
     xs, ys = [x for x, _ in points], [y for _, y in points]
     return (min(xs), min(ys), max(xs), max(ys))
+
+
+def position(x, y):
+    """A place in nanometres, in the type that KiCad's calls take."""
+    if hasattr(pcbnew, "wxPoint") and pcbnew.Version().startswith("6"):
+        return pcbnew.wxPoint(int(x), int(y))
+    return pcbnew.VECTOR2I(int(x), int(y))
