@@ -54,6 +54,11 @@ class Program:
             out.write(text)
         return self.file(name)
 
+    @staticmethod
+    def rename(old, new):
+        """Gives a file of the folder another name; what had that name before is gone."""
+        os.replace(old, new)
+
     def lines(self, words, source, copy):
         """The lines that a call writes, one at a time, each also added to the file `copy`."""
         with open(source, "rb") as given, open(copy, "wb") as kept, open(self.file("error"), "w+b") as said:

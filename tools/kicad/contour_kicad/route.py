@@ -1,0 +1,259 @@
+"""Routing a board: export, run, check, import, and KiCad's verdict before and after."""
+import fnmatch
+import time
+from dataclasses import dataclass, field, replace
+
+from . import judge, kicad, replies, writing
+from .errors import NotRight, WrongInput
+from .export import Exporter
+from .model import Net
+from .progress import Progress
+
+PASSES = 4
+FINISH_STEPS = 10
+
+
+@dataclass
+class Missing:
+    """A connection that was not made: its net, the pad it should end in, and what stands round that pad."""
+    net: str
+    pad: str
+    is_proved: bool
+    round_it: list
+
+
+@dataclass
+class Outcome:
+    """What routing brought."""
+    before: judge.Verdict
+    after: judge.Verdict
+    new: dict
+    missing: list
+    nets: int
+    seconds: float
+    items: list = field(default_factory=list)
+
+
+def chosen_codes(board, pattern):
+    """The numbers of the nets that the pattern names, as in a shell; all nets without one."""
+    nets = {code: info.GetNetname() for code, info in board.GetNetsByNetcode().items() if code > 0}
+    if pattern is None:
+        return set(nets)
+    found = {code for code, name in nets.items()
+             if any(fnmatch.fnmatchcase(name, one) for one in pattern.split(","))}
+    if not found:
+        raise WrongInput(f"no net of the board is named as {pattern}")
+    return found
+
+
+def rip_up(board, codes):
+    """Takes away the tracks and vias of these nets that are not locked."""
+    for track in list(board.GetTracks()):
+        if track.GetNetCode() in codes and not track.IsLocked():
+            board.Delete(track)
+
+
+def zone_codes(board):
+    """The numbers of the nets that have a zone."""
+    return {zone.GetNetCode() for zone in board.Zones() if not zone.GetIsRuleArea() and zone.GetNetCode() > 0}
+
+
+def route_board(board, program, options, codes, rounds=None, quiet=False):
+    """Routes nets of a board in memory and gives the outcome; the tracks stand in the board then."""
+    start = time.monotonic()
+    judge.fill_zones(board)
+    before = judge.judge(board)
+    model = Exporter(board, options).model()
+    last = zone_codes(board)
+    chosen = [net for net in model.nets if net.code in codes]
+    chosen.sort(key=lambda net: (net.code in last, len(net.groups), span(net)))
+    if rounds:
+        model, state = search_orders(program, model, chosen, rounds, quiet)
+    else:
+        state = route_in_order(program, model, chosen, quiet)
+    items = writing.Writer(board, model).write(state)
+    judge.fill_zones(board)
+    after = judge.judge(board)
+    return Outcome(before, after, judge.new_violations(before, after), missing_of(model, state, chosen),
+                   len(chosen), time.monotonic() - start, items)
+
+
+def span(net):
+    """Half the way round the box of a net's anchors."""
+    xs, ys = [group.anchor[0] for group in net.groups], [group.anchor[1] for group in net.groups]
+    return max(xs) - min(xs) + max(ys) - min(ys)
+
+
+def route_in_order(program, model, chosen, quiet):
+    """Routes the nets one after another. A pad without a way goes to the end of its net for one more try."""
+    best, best_orders = None, None
+    tried = set()
+    for number in range(PASSES):
+        state, board, answer = run(program, model, [f"route {net.name}" for net in chosen], len(chosen), quiet, number)
+        orders = {net.name: list(net.groups) for net in chosen}
+        if best is None or shortfall(state, chosen) < shortfall(best[0], chosen):
+            best = keep(program, state, board, answer)
+            best_orders = orders
+        if not any([put_last(net, state, tried) for net in chosen]):
+            break
+    for net in chosen:
+        net.groups = best_orders[net.name]
+    program.check(best[1], best[2])
+    return best[0]
+
+
+def keep(program, state, board, answer):
+    """Puts a run's texts aside under names of their own."""
+    kept = program.file("best.board"), program.file("best.replies")
+    program.rename(board, kept[0])
+    program.rename(answer, kept[1])
+    return state, *kept
+
+
+def run(program, model, commands, total, quiet, number=0):
+    """Runs commands on the board; gives the state and the paths of the board text and of the replies."""
+    board = program.write("board", model.text(commands))
+    answer = program.file("replies")
+    progress = Progress("routing" if number == 0 else f"routing, pass {number + 1}", total, quiet)
+    reader = replies.Reader()
+    for line in program.lines(["run"], board, answer):
+        if reader.take(line) is not None:
+            progress.step()
+    progress.close()
+    return reader.state, board, answer
+
+
+def shortfall(state, nets):
+    """How many connections to pads are not made."""
+    return sum(lacking(net, state)[0] for net in nets)
+
+
+def lacking(net, state):
+    """How many pads of a net are not reached, and the first of them."""
+    at = state.open_at.get(net.name)
+    if at is None:
+        return 0, None
+    seen = 0
+    for place, group in enumerate(net.groups):
+        seen += len(group.rects)
+        if at < seen:
+            return len(net.groups) - max(place, 1), group
+    raise NotRight(f"the reply to net {net.name} names a connection that it does not have")
+
+
+def put_last(net, state, tried):
+    """Moves the pad to which there is no way to the end of its net; whether that is new."""
+    _, group = lacking(net, state)
+    if group is None or (net.name, id(group)) in tried or group is net.groups[-1]:
+        return False
+    tried.add((net.name, id(group)))
+    net.groups.remove(group)
+    net.groups.append(group)
+    return True
+
+
+def search_orders(program, model, chosen, rounds, quiet):
+    """Searches an order of the nets that leaves fewer open, and routes in it."""
+    model = only(model, chosen)
+    if program.has_finish():
+        commands = finish(program, model, rounds, quiet)
+    else:
+        order = best_order(program, model, rounds, chosen)
+        commands = [f"route {name}" for name in order]
+    state, board, answer = run(program, model, commands, len(commands), quiet)
+    program.check(board, answer)
+    return model, state
+
+
+def only(model, chosen):
+    """The model with every rectangle of other nets as a net of its own, so that nothing of them can be routed."""
+    nets = list(chosen)
+    for net in model.nets:
+        if net not in chosen:
+            for group in net.groups:
+                for rect in group.rects:
+                    nets.append(Net(f"~~{len(nets)}", net.class_name, [replace(group, rects=[rect])]))
+    return replace(model, nets=nets)
+
+
+def finish(program, model, steps, quiet):
+    """The commands that `contour finish` finds, a few steps at a time."""
+    text = program.write("plan", model.text([]))
+    progress = Progress("finish, steps", steps, quiet, every=0)
+    done = 0
+    while done < steps:
+        some = min(FINISH_STEPS, steps - done)
+        status, told = program.to_file(["finish", str(some)], text, program.file("plan.new"))
+        if status:
+            raise NotRight(f"contour finish ended with status {status}: {told}")
+        program.rename(program.file("plan.new"), text)
+        done += some
+        for _ in range(some - 1):
+            progress.done += 1
+        progress.step()
+    progress.close()
+    with open(text, "rb") as plan:
+        return [line.decode("ascii").strip() for line in plan if line.startswith((b"route ", b"rip "))]
+
+
+def best_order(program, model, rounds, chosen):
+    """The order of the nets in the best round that `contour auto` plays."""
+    text = program.write("board", model.text([]))
+    rounds_played, order, best = [], [], 1
+    wanted = {net.name for net in chosen}
+    for line in program.lines(["auto", str(min(100, rounds))], text, program.file("auto")):
+        words = line.split()
+        if words[:1] == [b"round"]:
+            order = []
+            rounds_played.append(order)
+        elif words[:1] == [b"route"] and words[1].decode("ascii") in wanted:
+            order.append(words[1].decode("ascii"))
+        elif words[:1] == [b"best"]:
+            best = int(words[1])
+    return rounds_played[best - 1]
+
+
+def missing_of(model, state, chosen):
+    """The pads that are not reached."""
+    found = []
+    for net in chosen:
+        count, first = lacking(net, state)
+        if not count:
+            continue
+        for group in net.groups[net.groups.index(first):] if net.groups[0] is not first else net.groups[1:]:
+            found.append(Missing(net.title, group.label, group is first, round_pad(model, net, group)))
+    return found
+
+
+def round_pad(model, net, group):
+    """What of other nets stands so near to a pad that a wire between the two has no room, the nearest first."""
+    one = next(c for c in model.classes if c.name == net.class_name)
+    reach = 2 * (one.half + one.gap)
+    near = []
+    for other in model.nets:
+        if other is net:
+            continue
+        for piece in other.groups:
+            if piece.first <= group.last and group.first <= piece.last:
+                apart = min(between(a, b) for a in group.rects[:1] for b in piece.rects[:1])
+                if apart < reach:
+                    near.append((apart, f"{piece.label} ({other.title})"))
+    return [label for _, label in sorted(near)[:4]]
+
+
+def between(a, b):
+    """What separates two rectangles: the greater of across and up."""
+    return max(a[0] - b[2], b[0] - a[2], a[1] - b[3], b[1] - a[3], 0)
+
+
+def route_file(source, target, program_path, options, rounds=None, quiet=False):
+    """Routes a board file into another one; gives the outcome. Nothing is written unless all is judged."""
+    from .program import Program
+    board = kicad.open_board(source)
+    codes = chosen_codes(board, options.nets)
+    if options.rip_up:
+        rip_up(board, codes)
+    with Program(program_path) as program:
+        outcome = route_board(board, program, options, codes, rounds, quiet)
+    writing.save(board, target)
+    return outcome
