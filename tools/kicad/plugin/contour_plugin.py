@@ -59,7 +59,6 @@ def route_open_board(package):
     path = package["program"].find_program()
     with package["program"].Program(path) as running:
         outcome = package["route"].route_board(board, running, package["export"].Options(), codes, quiet=True)
-    pcbnew.Refresh()
     return "\n".join(package["report"].table(outcome))
 
 
