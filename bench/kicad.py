@@ -12,6 +12,7 @@ Needs Debian's packages kicad and kicad-demos. Run it at the top of the reposito
 import argparse
 import json
 import os
+import signal
 import subprocess
 import sys
 import time
@@ -72,6 +73,7 @@ def main():
     words.add_argument("names", nargs="*", default=list(BOARDS))
     given = words.parse_args()
     if given.one:
+        signal.signal(signal.SIGTERM, lambda *_: sys.exit(1))
         print(json.dumps(measure(given.one, given.contour, given.rounds, given.out)))
         return 0
     print("| board | unconnected before, after | new violations | tracks, the human's | vias, the human's | "

@@ -97,7 +97,10 @@ class Exporter:
         raised = self.raised_clearances()
         users = {}
         names = {}
+        used = {item.GetNetCode() for item in self.pads + list(self.board.GetTracks())}
         for code, net in self.board.GetNetsByNetcode().items():
+            if code not in used:
+                continue
             name = net.GetNetClassName() or "Default"
             one = found.Find(name) or found.Find("Default")
             gap = max(one.GetClearance(), self.settings.m_MinClearance, raised.get(code, 0))
@@ -167,7 +170,7 @@ class Exporter:
         taken = set()
         nets = {}
         for code, info in self.board.GetNetsByNetcode().items():
-            if code > 0:
+            if code in self.class_of_code and code > 0:
                 name = self.fresh_name(info.GetNetname(), taken)
                 nets[code] = Net(name, self.class_of_code[code].name, [], code, info.GetNetname())
         loose = []

@@ -3,10 +3,10 @@ import fnmatch
 import time
 from dataclasses import dataclass, field, replace
 
-from . import judge, kicad, replies, writing
+from . import judge, kicad, replies, writing, zones
 from .errors import NotRight, WrongInput
 from .export import Exporter
-from .model import Net
+from .model import Model, Net
 from .progress import Progress
 
 PASSES = 4
@@ -34,6 +34,23 @@ class Outcome:
     items: list = field(default_factory=list)
 
 
+@dataclass
+class Plan:
+    """Commands that were run on a model, the state that they leave, and the paths of both texts."""
+    model: Model
+    commands: list
+    state: replies.State
+    board: str
+    replies: str
+
+    def kept(self, program):
+        """The plan with its texts under names that later runs leave alone."""
+        board, answer = program.file("best.board"), program.file("best.replies")
+        program.rename(self.board, board)
+        program.rename(self.replies, answer)
+        return replace(self, board=board, replies=answer)
+
+
 def chosen_codes(board, pattern):
     """The numbers of the nets that the pattern names, as in a shell; all nets without one."""
     nets = {code: info.GetNetname() for code, info in board.GetNetsByNetcode().items() if code > 0}
@@ -59,23 +76,43 @@ def zone_codes(board):
 
 
 def route_board(board, program, options, codes, rounds=None, quiet=False):
-    """Routes nets of a board in memory and gives the outcome; the tracks stand in the board then."""
+    """Routes nets of a board in memory and gives the outcome; the tracks stand in the board then.
+
+    Nets with zones come last: their zones are filled round the tracks of the others, and tracks join only what
+    the zones leave apart.
+    """
     start = time.monotonic()
     judge.fill_zones(board)
     before = judge.judge(board)
     model = Exporter(board, options).model()
-    last = zone_codes(board)
-    chosen = [net for net in model.nets if net.code in codes]
-    chosen.sort(key=lambda net: (net.code in last, len(net.groups), span(net)))
-    if rounds:
-        model, state = search_orders(program, model, chosen, rounds, quiet)
-    else:
-        state = route_in_order(program, model, chosen, quiet)
-    items = writing.Writer(board, model).write(state)
+    chosen = sorted((net for net in model.nets if net.code in codes), key=lambda net: (len(net.groups), span(net)))
+    with_zone = zone_codes(board)
+    zoned = [net for net in chosen if net.code in with_zone]
+    others = [net for net in chosen if net.code not in with_zone]
+    plan = search_plan(program, model, others, rounds, quiet)
+    items = writing.Writer(board, plan.model).write(plan.state)
     judge.fill_zones(board)
+    plan, links = join_zones(board, program, plan, zoned, quiet)
+    program.check(plan.board, plan.replies)
+    if links:
+        for item in items:
+            board.Delete(item)
+        items = writing.Writer(board, plan.model).write(plan.state)
+        judge.fill_zones(board)
     after = judge.judge(board)
-    return Outcome(before, after, judge.new_violations(before, after), missing_of(model, state, chosen),
+    return Outcome(before, after, judge.new_violations(before, after), missing_of(plan.model, plan.state, others + links),
                    len(chosen), time.monotonic() - start, items)
+
+
+def join_zones(board, program, plan, zoned, quiet):
+    """The plan with the tracks that nets with zones still need, and the nets that stand for these."""
+    clusters = {net.name: zones.clusters_of(board, plan.model, net) for net in zoned}
+    apart = [net for net in zoned if len(clusters[net.name]) > 1]
+    if not apart:
+        return plan, []
+    model, links = zones.with_links(plan.model, apart, clusters)
+    commands = plan.commands + [f"route {net.name}" for net in links]
+    return run_plan(program, model, commands, quiet, "routing to zones"), links
 
 
 def span(net):
@@ -84,43 +121,43 @@ def span(net):
     return max(xs) - min(xs) + max(ys) - min(ys)
 
 
-def route_in_order(program, model, chosen, quiet):
+def search_plan(program, model, nets, rounds, quiet):
+    """A plan that routes the nets one after another; where it leaves one open, the best that a search finds."""
+    plan = route_in_order(program, model, nets, quiet)
+    if not rounds or not shortfall(plan.state, nets):
+        return plan
+    found = search_orders(program, model, nets, rounds, quiet)
+    return found.kept(program) if shortfall(found.state, nets) < shortfall(plan.state, nets) else plan
+
+
+def route_in_order(program, model, nets, quiet):
     """Routes the nets one after another. A pad without a way goes to the end of its net for one more try."""
-    best, best_orders = None, None
+    best, best_groups = None, {}
     tried = set()
     for number in range(PASSES):
-        state, board, answer = run(program, model, [f"route {net.name}" for net in chosen], len(chosen), quiet, number)
-        orders = {net.name: list(net.groups) for net in chosen}
-        if best is None or shortfall(state, chosen) < shortfall(best[0], chosen):
-            best = keep(program, state, board, answer)
-            best_orders = orders
-        if not any([put_last(net, state, tried) for net in chosen]):
+        title = "routing" if number == 0 else f"routing, pass {number + 1}"
+        plan = run_plan(program, model, [f"route {net.name}" for net in nets], quiet, title)
+        if best is None or shortfall(plan.state, nets) < shortfall(best.state, nets):
+            best = plan.kept(program)
+            best_groups = {net.name: list(net.groups) for net in nets}
+        if not any([put_last(net, plan.state, tried) for net in nets]):
             break
-    for net in chosen:
-        net.groups = best_orders[net.name]
-    program.check(best[1], best[2])
-    return best[0]
+    for net in nets:
+        net.groups = best_groups[net.name]
+    return best
 
 
-def keep(program, state, board, answer):
-    """Puts a run's texts aside under names of their own."""
-    kept = program.file("best.board"), program.file("best.replies")
-    program.rename(board, kept[0])
-    program.rename(answer, kept[1])
-    return state, *kept
-
-
-def run(program, model, commands, total, quiet, number=0):
-    """Runs commands on the board; gives the state and the paths of the board text and of the replies."""
+def run_plan(program, model, commands, quiet, title):
+    """Runs commands on the board; progress counts the nets."""
     board = program.write("board", model.text(commands))
     answer = program.file("replies")
-    progress = Progress("routing" if number == 0 else f"routing, pass {number + 1}", total, quiet)
+    progress = Progress(title, len(commands), quiet)
     reader = replies.Reader()
     for line in program.lines(["run"], board, answer):
         if reader.take(line) is not None:
             progress.step()
     progress.close()
-    return reader.state, board, answer
+    return Plan(model, commands, reader.state, board, answer)
 
 
 def shortfall(state, nets):
@@ -152,17 +189,14 @@ def put_last(net, state, tried):
     return True
 
 
-def search_orders(program, model, chosen, rounds, quiet):
-    """Searches an order of the nets that leaves fewer open, and routes in it."""
-    model = only(model, chosen)
+def search_orders(program, model, nets, rounds, quiet):
+    """Searches an order of the nets that leaves fewer open, with `finish` where there is one, and runs it."""
+    alone = only(model, nets)
     if program.has_finish():
-        commands = finish(program, model, rounds, quiet)
+        commands = finish(program, alone, rounds, quiet)
     else:
-        order = best_order(program, model, rounds, chosen)
-        commands = [f"route {name}" for name in order]
-    state, board, answer = run(program, model, commands, len(commands), quiet)
-    program.check(board, answer)
-    return model, state
+        commands = [f"route {name}" for name in best_order(program, alone, rounds, nets, quiet)]
+    return run_plan(program, model, commands, quiet, "routing in the best order")
 
 
 def only(model, chosen):
@@ -179,37 +213,36 @@ def only(model, chosen):
 def finish(program, model, steps, quiet):
     """The commands that `contour finish` finds, a few steps at a time."""
     text = program.write("plan", model.text([]))
-    progress = Progress("finish, steps", steps, quiet, every=0)
-    done = 0
-    while done < steps:
-        some = min(FINISH_STEPS, steps - done)
-        status, told = program.to_file(["finish", str(some)], text, program.file("plan.new"))
+    progress = Progress("finish", -(-steps // FINISH_STEPS), quiet, every=0)
+    for done in range(0, steps, FINISH_STEPS):
+        words = ["finish", str(min(FINISH_STEPS, steps - done))]
+        status, told = program.to_file(words, text, program.file("plan.new"))
         if status:
-            raise NotRight(f"contour finish ended with status {status}: {told}")
+            raise NotRight(f"contour {' '.join(words)} ended with status {status}: {told}")
         program.rename(program.file("plan.new"), text)
-        done += some
-        for _ in range(some - 1):
-            progress.done += 1
         progress.step()
     progress.close()
     with open(text, "rb") as plan:
         return [line.decode("ascii").strip() for line in plan if line.startswith((b"route ", b"rip "))]
 
 
-def best_order(program, model, rounds, chosen):
+def best_order(program, model, rounds, chosen, quiet):
     """The order of the nets in the best round that `contour auto` plays."""
     text = program.write("board", model.text([]))
     rounds_played, order, best = [], [], 1
     wanted = {net.name for net in chosen}
+    progress = Progress("auto", min(100, rounds), quiet, every=0)
     for line in program.lines(["auto", str(min(100, rounds))], text, program.file("auto")):
         words = line.split()
         if words[:1] == [b"round"]:
             order = []
             rounds_played.append(order)
+            progress.step()
         elif words[:1] == [b"route"] and words[1].decode("ascii") in wanted:
             order.append(words[1].decode("ascii"))
         elif words[:1] == [b"best"]:
             best = int(words[1])
+    progress.close()
     return rounds_played[best - 1]
 
 

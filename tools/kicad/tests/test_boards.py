@@ -1,10 +1,13 @@
 """Small boards through the whole way, one demonstration board, and input that is refused."""
+import json
 import os
 import re
 import shutil
+import signal
 import subprocess
 import sys
 import tempfile
+import time
 import unittest
 
 from . import boards
@@ -205,6 +208,38 @@ class Route(Folder):
         self.assertEqual(status, 0)
         self.assertRegex(out, r"unconnected +2 +0\n")
 
+    def test_a_zone_joins_what_it_can_and_tracks_the_rest(self):
+        board = self.board()
+        for x in (104, 108, 122, 126):
+            boards.pad(board, x, 110, "GND", measures=(1.2, 1.2), drill=0.6)
+        zone = pcbnew.ZONE(board)
+        zone.SetLayerSet(pcbnew.LSET(pcbnew.F_Cu))
+        zone.SetNetCode(board.FindNet("GND").GetNetCode())
+        outline = zone.Outline()
+        outline.NewOutline()
+        for x, y in ((101, 105), (116, 105), (116, 115), (101, 115)):
+            outline.Append(x * boards.MM, y * boards.MM)
+        board.Add(zone)
+        status, result, out = self.routed(board)
+        self.assertEqual(status, 0)
+        self.assertRegex(out, r"unconnected +2 +0\n")
+        self.assertTrue(all(track.GetEnd().x >= 107 * boards.MM for track in result.GetTracks()))
+
+    def test_an_interrupt_leaves_no_file(self):
+        board = self.board()
+        for i in range(40):
+            boards.pad(board, 102 + i % 10 * 2.5, 103 + i // 10 * 4, f"N{i % 13}", measures=(1, 1), drill=0.5)
+        source = boards.save(board, self.path("in.kicad_pcb"))
+        before = sorted(os.listdir(self.folder))
+        child = subprocess.Popen([sys.executable, COMMAND, "route", source, "-o", self.path("out.kicad_pcb")],
+                                 stdout=subprocess.DEVNULL, stderr=subprocess.PIPE, text=True)
+        time.sleep(0.7)
+        child.send_signal(signal.SIGINT)
+        _, said = child.communicate(timeout=60)
+        self.assertNotIn("Traceback", said)
+        self.assertEqual(child.returncode, 130)
+        self.assertEqual(sorted(os.listdir(self.folder)), before)
+
     def test_import_of_replies_gives_the_tracks_of_route(self):
         board = self.board()
         two_pads(board)
@@ -301,18 +336,18 @@ class Refused(Folder):
 
     def test_five_classes_that_differ(self):
         board = self.board()
-        settings = board.GetDesignSettings()
         for i in range(5):
             boards.pad(board, 104 + 4 * i, 110, f"N{i}", measures=(1, 1), smd=True)
-            one = pcbnew.NETCLASSPTR(f"K{i}")
-            one.SetTrackWidth(200000 + 50000 * i)
-            one.SetClearance(200000)
-            one.SetViaDiameter(800000)
-            one.SetViaDrill(400000)
-            one.Add(f"N{i}")
-            settings.GetNetClasses().Add(one)
-        board.SynchronizeNetsAndNetClasses()
-        self.refused(self.saved(board), what="K0, K1, K2, K3, K4", CONTOUR=self.fake())
+        path = self.saved(board)
+        project = self.path("in.kicad_pro")
+        with open(project, encoding="utf-8") as text:
+            content = json.load(text)
+        classes = content["net_settings"]["classes"]
+        for i in range(5):
+            classes.append({**classes[0], "name": f"K{i}", "track_width": 0.3 + 0.05 * i, "nets": [f"N{i}"]})
+        with open(project, "w", encoding="utf-8") as out:
+            json.dump(content, out)
+        self.refused(path, what="K0, K1, K2, K3, K4", CONTOUR=self.fake())
 
     def test_no_net_of_the_name(self):
         board = self.board()
