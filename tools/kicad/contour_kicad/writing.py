@@ -1,4 +1,5 @@
 """Connections of the replies as KiCad's tracks and vias."""
+import json
 import os
 from collections import defaultdict
 
@@ -163,7 +164,14 @@ def save(board, path):
 
 
 def move_project(beside, path):
-    """Keeps the project that KiCad wrote beside the board where the new board has none yet."""
+    """Keeps the project that KiCad wrote beside the board, under the board's name, where there is none yet."""
     old, new = os.path.splitext(beside)[0] + ".kicad_pro", os.path.splitext(path)[0] + ".kicad_pro"
-    if os.path.exists(old) and not os.path.exists(new):
-        os.replace(old, new)
+    if not os.path.exists(old) or os.path.exists(new):
+        return
+    with open(old, encoding="utf-8") as text:
+        project = json.load(text)
+    project.setdefault("meta", {})["filename"] = os.path.basename(new)
+    with open(old, "w", encoding="utf-8") as out:
+        json.dump(project, out, indent=2)
+        out.write("\n")
+    os.replace(old, new)

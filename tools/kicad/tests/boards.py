@@ -1,5 +1,6 @@
 """Small boards that tests make with pcbnew."""
 import os
+import sys
 import unittest
 
 try:
@@ -9,6 +10,8 @@ except ImportError:
 
 MM = 1000000
 WANTING = "KiCad's Python module pcbnew is not installed (apt-get install kicad), so these tests are skipped"
+if pcbnew is None:
+    print(WANTING, file=sys.stderr)
 PROGRAM = os.environ.get("CONTOUR", "")
 
 
