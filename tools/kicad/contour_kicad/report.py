@@ -16,6 +16,5 @@ def table(outcome):
     width = max(len(row[0]) for row in rows)
     yield from (f"{name:<{width}}  {left!s:>10}  {right!s:>10}".rstrip() for name, left, right in rows)
     for one in outcome.missing:
-        why = "there is no way" if one.is_proved else "not tried after that"
         near = f"; near it: {', '.join(one.round_it)}" if one.round_it else ""
-        yield f"not connected: {one.pad} of {one.net}: {why}{near}"
+        yield f"not connected: {one.pad} of {one.net}: {one.why}{near}"

@@ -3,7 +3,7 @@ import fnmatch
 import time
 from dataclasses import dataclass, field, replace
 
-from . import judge, kicad, replies, writing, zones
+from . import freedom, judge, kicad, replies, writing, zones
 from .errors import NotRight, WrongInput
 from .export import Exporter
 from .model import Model, Net
@@ -15,10 +15,10 @@ FINISH_STEPS = 10
 
 @dataclass
 class Missing:
-    """A connection that was not made: its net, the pad it should end in, and what stands round that pad."""
+    """A pad that is not reached: its net, why, and what stands round it."""
     net: str
     pad: str
-    is_proved: bool
+    why: str
     round_it: list
 
 
@@ -88,7 +88,8 @@ def route_board(board, program, options, codes, rounds=None, quiet=False):
     chosen = sorted((net for net in model.nets if net.code in codes), key=lambda net: (len(net.groups), span(net)))
     with_zone = zone_codes(board)
     zoned = [net for net in chosen if net.code in with_zone]
-    others = [net for net in chosen if net.code not in with_zone]
+    model, others = without_standing(board, model, [net for net in chosen if net.code not in with_zone])
+    put_shut_in_last(model, others)
     plan = search_plan(program, model, others, rounds, quiet)
     items = writing.Writer(board, plan.model).write(plan.state)
     judge.fill_zones(board)
@@ -102,6 +103,22 @@ def route_board(board, program, options, codes, rounds=None, quiet=False):
     after = judge.judge(board)
     return Outcome(before, after, judge.new_violations(before, after), missing_of(plan.model, plan.state, others + links),
                    len(chosen), time.monotonic() - start, items)
+
+
+def without_standing(board, model, nets):
+    """The model and the nets to route where tracks stand: only what these leave apart is routed."""
+    tracked = [net for net in nets if any(group.label in ("track", "via") for group in net.groups)]
+    clusters = {net.name: zones.clusters_of(board, model, net) for net in tracked}
+    apart = [net for net in tracked if len(clusters[net.name]) > 1]
+    model, links = zones.with_links(model, apart, clusters)
+    return model, [net for net in nets if net not in tracked] + links
+
+
+def put_shut_in_last(model, nets):
+    """Moves pads that no wire of their class can leave to the end of their nets."""
+    for net, group in freedom.shut_in(model, nets):
+        net.groups.remove(group)
+        net.groups.append(group)
 
 
 def join_zones(board, program, plan, zoned, quiet):
@@ -253,8 +270,11 @@ def missing_of(model, state, chosen):
         count, first = lacking(net, state)
         if not count:
             continue
-        for group in net.groups[net.groups.index(first):] if net.groups[0] is not first else net.groups[1:]:
-            found.append(Missing(net.title, group.label, group is first, round_pad(model, net, group)))
+        shut = {id(group) for _, group in freedom.shut_in(model, [net])}
+        for group in net.groups[max(1, net.groups.index(first)):]:
+            why = ("no wire of its class can leave it" if id(group) in shut
+                   else "there is no way" if group is first or net.groups[0] is first else "not tried after that")
+            found.append(Missing(net.title, group.label, why, round_pad(model, net, group)))
     return found
 
 

@@ -225,6 +225,44 @@ class Route(Folder):
         self.assertRegex(out, r"unconnected +2 +0\n")
         self.assertTrue(all(track.GetEnd().x >= 107 * boards.MM for track in result.GetTracks()))
 
+    def test_tracks_that_stand_are_kept_and_only_the_rest_is_routed(self):
+        board = self.board()
+        two_pads(board)
+        boards.pad(board, 115, 105, "A", measures=(1.6, 1.6), drill=0.8)
+        track = pcbnew.PCB_TRACK(board)
+        track.SetStart(boards.at(105, 110))
+        track.SetEnd(boards.at(115, 105))
+        track.SetWidth(250000)
+        track.SetNet(board.FindNet("A"))
+        board.Add(track)
+        old = ends(board)
+        status, result, out = self.routed(board)
+        self.assertEqual(status, 0)
+        self.assertRegex(out, r"unconnected +1 +0\n")
+        self.assertLess(old, ends(result))
+
+    @unittest.skipUnless(os.path.exists(ECC83), "the package kicad-demos is not installed")
+    def test_a_board_that_is_complete_stays_as_it_is(self):
+        status, _, said = call("route", ECC83, "-o", self.path("out.kicad_pcb"), "--quiet")
+        self.assertEqual((status, said), (0, ""))
+        self.assertEqual(ends(pcbnew.LoadBoard(ECC83)), ends(pcbnew.LoadBoard(self.path("out.kicad_pcb"))))
+
+    def test_a_pad_that_no_wire_can_leave_is_named(self):
+        board = self.board()
+        two_pads(board, smd=True)
+        for y in (108.95, 111.05):
+            boards.pad(board, 105, y, "B", shape=1, measures=(3, 0.3), smd=True)
+        for x in (103.95, 106.05):
+            boards.pad(board, x, 110, "B", shape=1, measures=(0.3, 1.6), smd=True)
+        for item in board.GetPads():
+            if item.GetNetname() == "A" and item.GetPosition().x == 105 * boards.MM:
+                item.SetShape(1)
+                item.SetSize(boards.size(0.2, 0.2))
+        for pads in ((104.7, 110), (105.3, 110), (105, 109.7), (105, 110.3)):
+            boards.pad(board, *pads, "B", shape=1, measures=(0.1, 0.1), smd=True)
+        _, _, out = self.routed(board, "--nets", "A")
+        self.assertRegex(out, r"not connected: X\d+\.1 of A: no wire of its class can leave it")
+
     def test_an_interrupt_leaves_no_file(self):
         board = self.board()
         for i in range(40):
