@@ -35,7 +35,7 @@ class Writer:
         """Adds what one net's connections need."""
         pads = self.own_pads(net)
         wires, vias = defaultdict(list), {}
-        for connection in connections:
+        for connection in self.needed(net, pads, connections):
             for start, end in zip(connection.nodes, connection.nodes[1:]):
                 if end[3] is not None:
                     vias[end[0], end[1], end[3]] = True
@@ -50,6 +50,23 @@ class Writer:
         for item in items:
             self.board.Add(item)
         return items
+
+    def needed(self, net, pads, connections):
+        """The connections without those that only join a pad's further rectangles, which its copper joins.
+
+        Such a one stays where a later connection that stays starts on it, outside the net's pads.
+        """
+        first_pins, place = set(), 0
+        for group in net.groups:
+            first_pins.add(place)
+            place += len(group.rects)
+        kept = []
+        for connection in reversed(connections):
+            starts = [one.nodes[0] for one in kept]
+            if connection.number in first_pins or any(
+                    lies_on(node, connection) and not self.lies_in_pad(pads, node, node) for node in starts):
+                kept.append(connection)
+        return kept[::-1]
 
     def own_pads(self, net):
         """The contours of the net's pads, with their layers, from the origin."""
@@ -116,6 +133,16 @@ class Writer:
         item.SetLayerPair(self.model.layer_ids[kind.first], self.model.layer_ids[kind.last])
         item.SetNetCode(net.code)
         return item
+
+
+def lies_on(node, connection):
+    """Whether a node's place is on one of the connection's legs; a via counts on every layer."""
+    x, y, layer, _ = node
+    for (x0, y0, start_layer, _), (x1, y1, _, kind) in zip(connection.nodes, connection.nodes[1:]):
+        if min(x0, x1) <= x <= max(x0, x1) and min(y0, y1) <= y <= max(y0, y1):
+            if kind is not None or layer == start_layer:
+                return True
+    return False
 
 
 def box_holds(box, x, y):
