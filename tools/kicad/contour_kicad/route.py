@@ -85,7 +85,7 @@ def route_board(board, program, options, codes, rounds=None, quiet=False):
     judge.fill_zones(board)
     before = judge.judge(board)
     model = Exporter(board, options).model()
-    chosen = sorted((net for net in model.nets if net.code in codes), key=lambda net: (len(net.groups), span(net)))
+    chosen = sorted((net for net in model.nets if net.code in codes), key=span)
     with_zone = zone_codes(board)
     zoned = [net for net in chosen if net.code in with_zone]
     model, others = without_standing(board, model, [net for net in chosen if net.code not in with_zone])
