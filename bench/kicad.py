@@ -88,8 +88,9 @@ def main():
         child = subprocess.Popen(call, stdout=subprocess.PIPE, stderr=subprocess.PIPE, text=True)
         try:
             out, said = child.communicate(timeout=given.limit)
+            reason = (said.strip().splitlines() or ["no reason given"])[-1]
             print(row(name, json.loads(out.splitlines()[-1])) if child.returncode == 0 and out else
-                  f"| {name} | failed: {(said.strip().splitlines() or ['no reason given'])[-1]} | | | | | |", flush=True)
+                  f"| {name} | failed: {reason} | | | | | |", flush=True)
         except subprocess.TimeoutExpired:
             child.terminate()
             child.communicate()

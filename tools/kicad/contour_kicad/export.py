@@ -1,5 +1,4 @@
 """A KiCad board as a model: copper grows and free space shrinks where a coordinate is rounded."""
-import math
 import os
 import re
 from collections import Counter
@@ -40,7 +39,6 @@ class Exporter:
         self.settings = board.GetDesignSettings()
         self.title = os.path.basename(board.GetFileName()) or "board"
         self.covers = {}
-        self.notes = []
         self.layer_ids = kicad.copper_layers(board)
         self.place = {layer: i for i, layer in enumerate(self.layer_ids)}
         if len(self.layer_ids) > MOST_LAYERS:
@@ -52,7 +50,7 @@ class Exporter:
 
     def model(self):
         """The whole model."""
-        self.classes, self.class_of_name, self.class_of_code = self.net_classes()
+        self.classes, self.class_of_code = self.net_classes()
         self.least_gap = min(one.gap_nm for one in self.classes)
         kinds = self.via_kinds()
         nets = self.nets()
@@ -128,7 +126,7 @@ class Exporter:
         if not classes:
             raise WrongInput(f"{self.title}: has no nets")
         by_code = {code: of_sizes[sizes] for code, sizes in names.items()}
-        return classes, {one.name: one for one in classes}, by_code
+        return classes, by_code
 
     @staticmethod
     def merged_by_width(users, names):
@@ -434,7 +432,7 @@ def even_odd(contours):
     """KiCad's polygon set of contours of which some are holes in others."""
     shape = kicad.polygon_set([])
     for contour in contours:
-        shape.BooleanXor(kicad.polygon_set([contour])) if hasattr(shape, "BooleanXor") else add_or_cut(shape, contour)
+        add_or_cut(shape, contour)
     return shape
 
 
@@ -474,4 +472,4 @@ def in_order(groups):
 
 def distance(a, b):
     """How far the anchors of two groups are apart, across and up together."""
-    return math.fabs(a.anchor[0] - b.anchor[0]) + math.fabs(a.anchor[1] - b.anchor[1])
+    return abs(a.anchor[0] - b.anchor[0]) + abs(a.anchor[1] - b.anchor[1])

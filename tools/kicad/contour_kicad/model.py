@@ -74,10 +74,6 @@ class Model:
     areas: list
     nets: list
 
-    def net_of_code(self, code):
-        """The net with KiCad's number, or None."""
-        return next((net for net in self.nets if net.code == code), None)
-
     def pin_count(self):
         """How many pins the text has."""
         return sum(len(group.rects) for net in self.nets for group in net.groups)

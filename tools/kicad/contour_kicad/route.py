@@ -101,8 +101,9 @@ def route_board(board, program, options, codes, rounds=None, quiet=False):
         items = writing.Writer(board, plan.model).write(plan.state)
         judge.fill_zones(board)
     after = judge.judge(board)
-    return Outcome(before, after, judge.new_violations(before, after), missing_of(plan.model, plan.state, others + links),
-                   len(chosen), time.monotonic() - start, items)
+    missing = missing_of(plan.model, plan.state, others + links)
+    return Outcome(before, after, judge.new_violations(before, after), missing, len(chosen),
+                   time.monotonic() - start, items)
 
 
 def without_standing(board, model, nets):
