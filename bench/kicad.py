@@ -76,8 +76,8 @@ def main():
         signal.signal(signal.SIGTERM, lambda *_: sys.exit(1))
         print(json.dumps(measure(given.one, given.contour, given.rounds, given.out)))
         return 0
-    print("| board | unconnected before, after | new violations | tracks, the human's | vias, the human's | "
-          "length mm, the human's | seconds |\n|---|---|---|---|---|---|---|", flush=True)
+    print("| board | unconnected: before, after | new | tracks: ours, human | vias: ours, human | "
+          "mm: ours, human | seconds |\n|---|---|---|---|---|---|---|", flush=True)
     for name in given.names:
         if name not in BOARDS:
             sys.exit(f"bench/kicad.py: there is no board {name}; the boards are {', '.join(BOARDS)}")
