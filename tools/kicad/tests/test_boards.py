@@ -201,12 +201,26 @@ class Route(Folder):
 
     def test_rounds_keep_what_a_plain_run_makes(self):
         board = self.board()
-        two_pads(board)
+        two_pads(board, smd=True)
+        boards.box(board, 103, 108, 4, 4, pcbnew.F_Cu)
+        boards.box(board, 103, 108, 4, 4, pcbnew.B_Cu)
         for x in (105, 125):
             boards.pad(board, x, 115, "B", shape=1, measures=(1, 1), smd=True)
-        status, _, out = self.routed(board, "--rounds", "2")
-        self.assertEqual(status, 0)
-        self.assertRegex(out, r"unconnected +2 +0\n")
+        _, _, out = self.routed(board, "--rounds", "2")
+        self.assertRegex(out, r"unconnected +2 +1\n")
+
+    def test_a_search_names_only_nets_of_the_board(self):
+        from contour_kicad import export, program, route
+        board = self.board()
+        for name, y in (("A", 105), ("B", 110), ("C", 115)):
+            for x in (105, 125):
+                boards.pad(board, x, y, name, shape=1, measures=(1, 1), smd=True)
+        model = export.Exporter(board, export.Options()).model()
+        nets = [net for net in model.nets if net.title in ("A", "B")]
+        with program.Program(program.find_program()) as running:
+            plan = route.search_orders(running, model, nets, 2, True)
+        self.assertEqual({command.split()[1] for command in plan.commands}, {"A", "B"})
+        self.assertEqual(route.shortfall(plan.state, nets), 0)
 
     def test_a_zone_joins_what_it_can_and_tracks_the_rest(self):
         board = self.board()
