@@ -35,6 +35,8 @@ import tree
 TOP = tree.TOP
 COLUMNS = 120
 SECONDS = 120
+# The Python for which the system's packages install modules, KiCad's pcbnew among them.
+SYSTEM_PYTHON = '/usr/bin/python3' if os.path.exists('/usr/bin/python3') else sys.executable
 README_LINES = (10, 30)
 COMMANDS = ('run', 'check', 'upgrade', 'gen', 'demo', 'fill', 'gerber', 'trace', 'through', 'auto')
 
@@ -198,8 +200,9 @@ def tools(program):
     for name in sorted(os.listdir(folder)) if os.path.isdir(folder) else []:
         if not os.path.isdir(os.path.join(folder, name, 'tests')):
             continue
-        ran = subprocess.run([sys.executable, '-m', 'unittest', 'discover', '-s', f'tools/{name}/tests'], cwd=TOP,
-                             capture_output=True, text=True, env={**os.environ, 'CONTOUR': os.path.abspath(program)})
+        words = [SYSTEM_PYTHON, '-m', 'unittest', 'discover', '-t', f'tools/{name}', '-s', f'tools/{name}/tests']
+        ran = subprocess.run(words, cwd=TOP, capture_output=True, text=True,
+                             env={**os.environ, 'CONTOUR': os.path.abspath(program)})
         if ran.returncode:
             faults.append(f'tools/{name}/tests: ' + ran.stderr.strip().split('\n')[-1])
     return faults
